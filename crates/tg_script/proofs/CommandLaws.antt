@@ -53,12 +53,12 @@ under_first {told = told} {start = start} {bytes = bytes} {t = t} {before = befo
 wrote_known : (W : Option (List ℕ) → List ℕ → Option (List ℕ) → Type 0) (taken after : Option (List ℕ)) (known bytes : List ℕ) → taken ≡ Some known → W taken bytes after → W (Some known) bytes after
 wrote_known W taken after known bytes is w = subst (λ x. W x bytes after) is w
 
--- the entry of this line stands behind those before
+-- the entry of this line is after those before
 had_more : {P : Type 0} (begun made : List Entry) (r r' : Run P) (l : Line) (a : Answer) (stock : List Value) → r.store.entries ≡ begun ++ made → values_left r.supply ≡ stock → MakesEntry r l a r' → r'.store.entries ≡ begun ++ (made ++ entered l a stock)
 had_more begun made r r' l a stock had is makes =
     makes.entries ∙ ap (λ (x : List Value). r.store.entries ++ entered l a x) is ∙ ap (λ (x : List Entry). x ++ entered l a stock) had ∙ append_assoc begun made (entered l a stock)
 
--- what is told of a line is written, and nothing more is read
+-- what is reported of a line is written, and nothing more is read
 pub under_end : {P : Type 0} {told : LineText} {start : Script} {bytes : List ℕ} {t : Scene} {first : Line} {begun : List Entry} {before : List ℕ} {s : Script} {r : Run P} {l : Line} {left taken : Option (List ℕ)} (a : Answer) (r' : Run P) (after : Option (List ℕ)) (end : Option ScriptFault) (behind : List ℕ) (h : Under told start bytes t first begun before s r l left taken) → Handles r l a r' → MakesEntry r l a r' → Wrote taken (told l a (values_left r.supply)) after → ReadsFrom s h.rest [] end behind → StandsTold told start bytes t first begun before end behind r'.store.entries after
 under_end {told = told} {start = start} {bytes = bytes} {t = t} {first = first} {begun = begun} {before = before} {s = s} {r = r} {l = l} {left = left} {taken = taken} a r' after end behind h handles makes wrote ends =
     let v = handles h.scene h.shows in
@@ -71,7 +71,7 @@ under_end {told = told} {start = start} {bytes = bytes} {t = t} {first = first} 
       h.goes_on [] end behind (told l a stock) (entered l a stock) ends (a, v.0, [], [], v.2, sym (append-nil (told l a stock)), sym (append-nil (entered l a stock)), (refl, refl)),
     )
 
--- what is told of a line is cut short, and nothing more is read
+-- what is reported of a line is cut short, and nothing more is read
 pub under_cut : (T : Type 0) {P : Type 0} {told : LineText} {start : Script} {bytes : List ℕ} {t : Scene} {first : Line} {begun : List Entry} {before : List ℕ} {s : Script} {r : Run P} {l : Line} {left taken : Option (List ℕ)} (a : Answer) (r' : Run P) (after : Option (List ℕ)) → Under told start bytes t first begun before s r l left taken → Handles r l a r' → MakesEntry r l a r' → WroteSome taken (told l a (values_left r.supply)) after → (rest : List ℕ) × (left ≡ Some rest) × TellsAll {T = T} told start bytes t first begun before (Err fault.WriteFailed) rest r'.store.entries after
 under_cut T {told = told} {start = start} {bytes = bytes} {t = t} {first = first} {begun = begun} {before = before} {s = s} {r = r} {l = l} {left = left} {taken = taken} a r' after h handles makes wrote =
     let v = handles h.scene h.shows in
@@ -92,7 +92,7 @@ under_cut T {told = told} {start = start} {bytes = bytes} {t = t} {first = first
 as_one : {X Y : Type 0} (P : X → Y → Type 0) {a b : X} {c d : Y} → a ≡ b → c ≡ d → P b d → P a c
 as_one P {b = b} {c = c} e f h = subst (λ x. P x c) (sym e) (subst (λ y. P b y) (sym f) h)
 
--- what is told of a line is written, and a further line is read
+-- what is reported of a line is written, and a further line is read
 pub under_next : {P : Type 0} {told : LineText} {start : Script} {bytes : List ℕ} {t : Scene} {first : Line} {begun : List Entry} {before : List ℕ} {s : Script} {r : Run P} {l : Line} {left taken : Option (List ℕ)} (a : Answer) (r' : Run P) (after : Option (List ℕ)) (next : Line) (s' : Script) (left' : Option (List ℕ)) → Under told start bytes t first begun before s r l left taken → Handles r l a r' → MakesEntry r l a r' → Wrote taken (told l a (values_left r.supply)) after → ((rest : List ℕ) → left ≡ Some rest → (rest' : List ℕ) × (left' ≡ Some rest') × PassesLine s rest next s' rest') → Under told start bytes t first begun before s' r' next left' after
 under_next {told = told} {start = start} {bytes = bytes} {t = t} {first = first} {begun = begun} {before = before} {s = s} {r = r} {l = l} {left = left} {taken = taken} a r' after next s' left' h handles makes wrote came =
     let v = handles h.scene h.shows in
@@ -127,7 +127,7 @@ tells_fault T fault.HeapFull told s bytes t first begun before left entries afte
 tells_fault T fault.BadLimits told s bytes t first begun before left entries after r h = absurd r
 tells_fault T f told s bytes t first begun before left entries after r h = (r, h)
 
--- a line that came behind another that is no edge line is no edge line
+-- a line that came after another that is no edge line is no edge line
 pub next_command : (s : Script) (l : Line) (t : Script) → s.opening ≡ false → Follows s l t → IsCommand l × (t.opening ≡ false)
 next_command s (line.Edge edge) t closed f = absurd (false≢true (sym closed ∙ f.stands.0))
 next_command s l t closed f = (tt, f.opening)

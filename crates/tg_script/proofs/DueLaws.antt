@@ -25,7 +25,7 @@ pub keeping_due : (start : Start) (f : ScriptFault) → IsOfKeeping f → IsDue 
 keeping_due start f (inl h) = reading_due start f h
 keeping_due start f (inr e) = subst (IsDue start) (sym e) tt
 
--- behind the edges
+-- after the edges
 pub lines_due : {T : Type 0} (start : Start) (r : Result T ScriptFault) → IfErr r IsOfReading → IfErr r (IsDue start)
 lines_due start (Ok done) h = tt
 lines_due start (Err f) h = reading_due start f h
@@ -42,7 +42,7 @@ pub finished_due : {T : Type 0} (start : Start) (outcome result : Result T Scrip
 finished_due start outcome result before after failures failures' due (kept, inl h) = subst (λ r. IfErr r (IsDue start)) (sym h.0) due
 finished_due start outcome result before after failures failures' due (kept, inr h) = subst (λ r. IfErr r (IsDue start)) (sym h.1) tt
 
--- ---- the failures that source and sink have counted are told
+-- ---- the failures that source and sink have counted are reported
 
 -- where no store is opened there was none
 pub opening_fails : (T : Type 0) (p : Plan) (blocks : ℕ) (f : ScriptFault) → OpensStore p blocks (Err f) → (read_failures {T = T} (Err f) ≡ 0) × (write_failures {T = T} (Err f) ≡ 0)

@@ -31,20 +31,20 @@ use Rattle.tg_script.proofs.TellLaws.{entries_cut, entries_told}
 
 -- ---- the entries that a line made
 
--- behind as many entries as there were stand those that were made since
+-- after as many entries as there were stand those that were made since
 pub held_since : (before made entries : List Entry) (first : ℕ) → entries ≡ before ++ made → first ≡ length before → drop first entries ≡ made
 held_since before made entries first is all = ap (λ (n : ℕ). drop n entries) all ∙ ap (drop (length before)) is ∙ drop-append_seam before made
 
 -- ---- the lines, behind the opening
 
--- the lines from the first on that is no edge line, and their entries, of which the texts stand behind the opening's
+-- the lines from the first on that is no edge line, and their entries, of which the texts are after the opening's
 pub record HasEntries (s : Script) (bytes : List ℕ) (t : Scene) (first : Option Line) (p : Plan) (before left : List ℕ) (entries : List Entry) (after : Option (List ℕ)) : Type 0 where
   pub lines : List Line
   pub reads : ReadsCommands s bytes first lines None left
   pub legal : AreLegal t lines entries
   pub stands : after ≡ Some (before ++ (head_text p ++ flat_map entry_text entries))
 
--- the text stands behind the opening's
+-- the text is after the opening's
 behind_head : (before head text : List ℕ) (es : List Entry) (after : Option (List ℕ)) → after ≡ Some ((before ++ head) ++ text) → text ≡ flat_map entry_text es → after ≡ Some (before ++ (head ++ flat_map entry_text es))
 behind_head before head text es after stands is =
     stands ∙ ap Some (append_assoc before head text) ∙ ap (λ (x : List ℕ). Some (before ++ (head ++ x))) is
@@ -113,7 +113,7 @@ enters_fault T f s bytes t (Some l) p begun before left entries after none legal
 
 -- ---- the opening in front, and the end behind
 
--- no line behind the opening was read, but the first that had come
+-- no line after the opening was read, but the first that had come
 none_told : (s : Script) (bytes : List ℕ) (first : Option Line) → ReadsCommands s bytes first (option_to_list first) (Some fault.WriteFailed) bytes × (length (option_to_list first) ≤ 1)
 none_told s bytes None = ((refl, refl, refl), omega arith)
 none_told s bytes (Some l) = (([], refl, may_stop_writing s.workers s.lines.room s.count s.opening bytes), omega arith)
@@ -160,7 +160,7 @@ enters_end_cut T s bytes t first p before left entries mid after h wrote =
 
 -- ---- what a call wrote of it
 
--- the opening that was written, or a front of it, is the plan's, behind what was known to stand
+-- the opening that was written, or a front of it, is the plan's, after what was known to stand
 pub as_opening : (W : Option (List ℕ) → List ℕ → Option (List ℕ) → Type 0) (p q : Plan) (before : List ℕ) (taken after : Option (List ℕ)) → q ≡ p → taken ≡ Some before → W taken (head_text q) after → W (Some before) (head_text p) after
 as_opening W p q before taken after same known wrote = subst (λ (x : Plan). W (Some before) (head_text x) after) same (subst (λ (x : Option (List ℕ)). W x (head_text q) after) known wrote)
 
@@ -180,7 +180,7 @@ edges_alone start bytes edges end left h = record { lines = edge_lines edges; re
 parts_same : (start : Start) (bytes : List ℕ) (edges : List Edge) (commands others : List Line) (end : Option ScriptFault) (left : List ℕ) → commands ≡ others → AreParts start bytes edges commands end left → AreParts start bytes edges others end left
 parts_same start bytes edges commands others end left same h = record { lines = h.lines; reads = h.reads; commands_are = h.commands_are ∙ same; edges_are = h.edges_are }
 
-all_parts : (start : Start) (t : Script) (bytes rest : List ℕ) (edges : List Edge) (first : Option Line) (commands : List Line) (end : Option ScriptFault) (left : List ℕ) → IsBehindEdges t first → ReadsFirst start.workers bytes (edge_lines edges) first t rest → ReadsCommands t rest first commands end left → AreParts start bytes edges commands end left
+pub all_parts : (start : Start) (t : Script) (bytes rest : List ℕ) (edges : List Edge) (first : Option Line) (commands : List Line) (end : Option ScriptFault) (left : List ℕ) → IsBehindEdges t first → ReadsFirst start.workers bytes (edge_lines edges) first t rest → ReadsCommands t rest first commands end left → AreParts start bytes edges commands end left
 all_parts start t bytes rest edges None commands None left command h k =
     parts_same start bytes edges [] commands None left (sym k.0) (edges_alone start bytes edges None left (subst (λ (x : List ℕ). ReadsScript start.workers bytes (edge_lines edges) None x) (sym k.1) h))
 all_parts start t bytes rest edges None commands (Some f) left command h k =
@@ -209,7 +209,7 @@ stands_entered start bytes before end text edges commands es left after parts ma
       (subst (λ (x : List Edge). after ≡ Some (before ++ text (plan_with start x) commands es)) (sym parts.edges_are) stands);
 }
 
--- a fault of reading behind the opening
+-- a fault of reading after the opening
 ran_reading : (f : ScriptFault) (start : Start) (t : Script) (bytes rest : List ℕ) (edges : List Edge) (first : Option Line) (before left : List ℕ) (after : Option (List ℕ)) → CanOpen start → IsBehindEdges t first → ReadsFirst start.workers bytes (edge_lines edges) first t rest →
     IsOfReading f × (lines : List Line) × (es : List Entry) × ReadsCommands t rest first lines (Some f) left × AreLegal (scene_with start edges) lines es × (after ≡ Some (before ++ unended_text (plan_with start edges) lines es)) →
     StandsEntered start bytes before (Some f) unended_text left after
@@ -247,7 +247,7 @@ ran_entering (Err f) start t bytes rest edges first before left after can comman
 
 -- ---- the store isn't opened
 
--- a fault came behind the edge lines
+-- a fault came after the edge lines
 unopened_stands : (f : ScriptFault) (start : Start) (bytes before : List ℕ) (edges : List Edge) (left : List ℕ) (after : Option (List ℕ)) → ReadsScript start.workers bytes (edge_lines edges) (Some f) left → after ≡ Some before → StandsEntered start bytes before (Some f) unended_text left after
 unopened_stands f start bytes before edges left after h same =
     let parts = edges_alone start bytes edges (Some f) left h in
@@ -320,7 +320,7 @@ entering_finished outcome r start bytes before left mid after f g h (keeps, inr 
 
 -- ---- the history is legal
 
--- all entries of a store that had none when it stood for a graph are a legal history of that graph
+-- all entries of a store that had none when it represented a graph are a legal history of that graph
 pub legal_from : (o now : Origin) (begun entries : List Entry) (g : ProtectionGraph) → begun ≡ [] → graph_after (start_at o) begun ≡ g → now ≡ o → IsLegal (start_at now) entries → IsLegal g entries
 legal_from o now begun entries g none stands same legal =
     subst (λ (x : ProtectionGraph). IsLegal x entries) (ap (λ (es : List Entry). graph_after (start_at o) es) (sym none) ∙ stands) (subst (λ (x : Origin). IsLegal (start_at x) entries) same legal)

@@ -9,3 +9,4 @@ pub mod EnteringLaws
 pub mod WholeLaws
 pub mod CountLaws
 pub mod OutputLaws
+pub mod MarkLaws

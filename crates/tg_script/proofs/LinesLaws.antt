@@ -55,7 +55,7 @@ front_more workers t u bytes rest after front l b p =
 pub front_all : (workers : ℕ) (t : Script) (bytes rest : List ℕ) (front : List Line) (end : Option ScriptFault) (left : List ℕ) → ReadsFront workers bytes front t rest → ReadsFrom t rest [] end left → ReadsScript workers bytes front end left
 front_all workers t bytes rest front end left b h = subst (λ x. ReadsScript workers bytes x end left) (append-nil front) (b [] end left h)
 
--- these lines come behind a further one
+-- these lines come after a further one
 pub front_then : (workers : ℕ) (t : Script) (bytes rest : List ℕ) (front : List Line) (l : Line) (more : List Line) (end : Option ScriptFault) (left : List ℕ) → ReadsFront workers bytes (front ++ l ∷ []) t rest → ReadsFrom t rest more end left → ReadsScript workers bytes (front ++ l ∷ more) end left
 front_then workers t bytes rest front l more end left b h = subst (λ x. ReadsScript workers bytes x end left) (append_assoc front (l ∷ []) more) (b more end left h)
 
@@ -66,7 +66,7 @@ front_next workers t u bytes rest after front (Some l) b h = front_more workers 
 
 -- ---- what is left behind lines
 
--- where reading stopped right behind lines, what is left is all behind them
+-- where reading stopped right after lines, what is left is all after them
 pub reads_behind : (lines : List Line) (workers room count : ℕ) (opening : Bool) (bytes left : List ℕ) → Reads workers room count opening bytes lines (Some fault.OutOfMemory) left → IsBehind lines bytes left
 reads_behind [] workers room count opening bytes left h = sym h
 reads_behind (l ∷ lines) workers room count opening bytes left h =
@@ -78,7 +78,7 @@ behind-append front more bytes rest left f m =
     f ∙ ap (λ x. flat_map line_bytes front ++ x) m ∙ sym (append_assoc (flat_map line_bytes front) (flat_map line_bytes more) left)
     ∙ ap (λ x. x ++ left) (sym (flat_map-append line_bytes front more))
 
--- reading may end so behind any line, with nothing more read
+-- reading may end so after any line, with nothing more read
 abbrev pub MayStop : ScriptFault → Type 0
 MayStop f = (workers room count : ℕ) (opening : Bool) (bytes : List ℕ) → Ends workers room count opening bytes (Some f) bytes
 

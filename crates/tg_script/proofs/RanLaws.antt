@@ -74,7 +74,7 @@ unbegun_edges fault.HeapFull start bytes left met h = let no : ⊥ = ⊎_elim (�
 unbegun_edges fault.BadLimits start bytes left met h = let no : ⊥ = ⊎_elim (λ (n : ⊥). n) (λ (e : fault.BadLimits ≡ fault.OutOfMemory). cc) met in absurd no
 unbegun_edges f start bytes left met h = h
 
--- the store wasn't opened behind them
+-- the store wasn't opened after them
 pub unbegun_store : (p : Plan) (f : ScriptFault) (start : Start) (t : Script) (bytes rest : List ℕ) (edges : List Edge) (first : Option Line) → p.workers ≡ start.workers → p.limit ≡ start.limit → OpensStore p start.blocks (Err f) → IsBehindEdges t first → ReadsFirst start.workers bytes (edge_lines edges) first t rest → Unbegun start bytes f rest
 unbegun_store p fault.OutOfMemory start t bytes rest edges first workers limit h command reads =
     inr (room_of p start workers limit h, unopened start t bytes rest edges first fault.OutOfMemory command reads (λ w r c o b. refl))
@@ -94,7 +94,7 @@ ran_unbegun T f start bytes before left after h same = edges_written start bytes
 
 -- ---- the store is opened
 
--- the lines of a script are these edge lines, and these behind them
+-- the lines of a script are these edge lines, and these after them
 pub record AreParts (start : Start) (bytes : List ℕ) (edges : List Edge) (commands : List Line) (end : Option ScriptFault) (left : List ℕ) : Type 0 where
   pub lines : List Line
   pub reads : ReadsScript start.workers bytes lines end left
@@ -147,7 +147,7 @@ ran_commands (Err fault.HeapFull) start t bytes rest edges l before left begun e
 ran_commands (Err fault.BadLimits) start t bytes rest edges l before left begun entries after can command front h = absurd h.0
 ran_commands (Err f) start t bytes rest edges l before left begun entries after can command front h = told_written start t bytes rest edges l before (Some f) left begun entries after can command front h.1
 
--- the lines were run, where there is one behind the edges
+-- the lines were run, where there is one after the edges
 pub ran_first : {T : Type 0} (r : Result T ScriptFault) (start : Start) (t : Script) (bytes rest : List ℕ) (edges : List Edge) (first : Option Line) (before left : List ℕ) (begun entries : List Entry) (after : Option (List ℕ)) → CanOpen start → IsBehindEdges t first → ReadsFirst start.workers bytes (edge_lines edges) first t rest → TellsFirst reply_of_line t rest (scene_with start edges) first begun before r left entries after → Ran start bytes before r left after
 ran_first (Err f) start t bytes rest edges None before left begun entries after can command reads h = absurd (false≢true h.0)
 ran_first (Ok done) start t bytes rest edges None before left begun entries after can command reads h =

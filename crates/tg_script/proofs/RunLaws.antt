@@ -52,7 +52,7 @@ subject_held g x h =
       | false ↦ λ e. absurd (h (λ subject. true≢false (sym (list_any-from_Contains {eq = eqb} nat_eq_equiv x g.subjects subject) ∙ e)))
     ] refl
 
--- with the opening and the entries of before, a store stands for the graph of before
+-- with the opening and the entries of before, a store represents the graph of before
 pub stands_still : (old new : StoreState) (g : ProtectionGraph) → new.opening ≡ old.opening → new.entries ≡ old.entries → StandsFor old g → StandsFor new g
 stands_still old new g opening entries stands = (λ i. graph_of_store (record { opening = opening i; entries = entries i; handed = new.handed; heap = new.heap; collections = new.collections })) ∙ stands
 
@@ -237,7 +237,7 @@ makes_before old mid values l a new before makes = record {
   opening = makes.opening ∙ before.opening;
 }
 
--- so it is where they are given up behind it
+-- so it is where they are given up after it
 pub handles_behind : {P : Type 0} (old : StoreState) (values : List Value) (helpers : ℕ) (l : Line) (a : Answer) (mid : Run P) (after : StoreState) → HandlesBy old values helpers l a mid → IsAsBefore mid.store after → HandlesBy old values helpers l a (record mid { store = after })
 handles_behind old values helpers l a mid after handles before s shows =
     let told = handles s shows in

@@ -8,7 +8,7 @@ use Rattle.tg_script.specs.Lines.{Follows}
 use Rattle.tg_script.specs.Inner.Beginning.{IsBehindEdges}
 use Rattle.tg_script.proofs.CommandLaws.{next_command}
 
--- what comes behind a line that is no edge line is none
+-- what comes after a line that is no edge line is none
 pub next_behind : (s t : Script) (next : Option Line) → s.opening ≡ false → IfSome next (λ l. Follows s l t) → IsBehindEdges t next
 next_behind s t None closed follows = tt
 next_behind s t (Some l) closed follows = next_command s l t closed follows

@@ -1,5 +1,5 @@
 -- What is written for the lines of a script where their entries are written in the place of replies.
-use Rattle.std.specs.Prelude.{◌≡◌, ℕ, ◌≤◌, List, [], ◌∷◌, ◌++◌, length, Option, Some, None, Result, Ok, Err}
+use Rattle.std.specs.Prelude.{◌≡◌, ℕ, ◌≤◌, Bool, true, false, List, [], ◌∷◌, ◌++◌, length, Option, Some, None, Result, Ok, Err}
 use Rattle.std.specs.List.{flat_map}
 use Rattle.tg_model.specs.declared.value.Value.{Value}
 use Rattle.tg_model.specs.declared.command.Deed.{Deed}
@@ -34,7 +34,7 @@ entered (line.Spawn x label) (told.Reply r) stock = making_entered x (spawn_of l
 entered (line.Plain x command) (told.Reply r) stock = (record { worker = x; deed = deed.Plain command; reply = r }) ∷ []
 entered l a stock = []
 
--- these are the entries of the lines, each of which is answered, or refused for want
+-- these are the entries of the lines, each of which is answered, or refused for lack
 abbrev pub AreEntered : Scene → List Line → List Entry → Type 0
 AreEntered s [] es = es ≡ []
 AreEntered s (l ∷ lines) es =
@@ -52,12 +52,12 @@ pub record IsEntered (start : Start) (lines commands : List Line) (entries : Lis
   pub entered : AreEntered (scene_of start lines) commands entries
   pub legal : IsLegal (scene_of start lines).graph entries
 
--- the text for commands behind which there is a fault: nothing where there is none, since no store is opened then
+-- the text for commands after which there is a fault: nothing where there is none, since no store is opened then
 abbrev pub unended_text : Plan → List Line → List Entry → List ℕ
 unended_text p [] es = []
 unended_text p (l ∷ commands) es = head_text p ++ flat_map entry_text es
 
--- all that was read was run, and this text stands behind what was written before
+-- all that was read was run, and this text is after what was written before
 pub record StandsEntered (start : Start) (bytes before : List ℕ) (end : Option ScriptFault) (text : Plan → List Line → List Entry → List ℕ) (left : List ℕ)
     (after : Option (List ℕ)) : Type 0 where
   pub lines : List Line
@@ -82,8 +82,8 @@ pub record IsCutEntered (start : Start) (bytes before left : List ℕ) (after : 
   pub cut : history_text (plan_of start lines) entries ≡ front ++ rest
   pub stands : after ≡ Some (before ++ front)
 
--- What stands in the sink after a run over these bytes that writes entries, where `before` stood in it, and what is left of them: the
--- text of a legal history, whose opening and entries are those of the script; or without its end, for the lines before the first fault.
+-- What is in the sink after a run over these bytes that writes entries, where `before` stood in it, and what is left of them: the text
+-- of a legal history, whose opening and entries are those of the script; or without its end, for the lines before the first fault.
 -- Where the store wasn't opened, what a run that writes replies leaves.
 abbrev pub RanEntering : {T : Type 0} → Start → List ℕ → List ℕ → Result T ScriptFault → List ℕ → Option (List ℕ) → Type 0
 RanEntering start bytes before (Ok done) left after =
@@ -97,3 +97,8 @@ RanEntering start bytes before (Err f) left after = StandsEntered start bytes be
 -- A run from this start that writes entries, by what its source and its sink tell.
 abbrev pub EntersFrom : {S K T : Type 0} → (S → Option (List ℕ)) → (S → ℕ) → (S → ℕ) → (K → Option (List ℕ)) → S → S → K → K → Start → Result T ScriptFault → Type 0
 EntersFrom {S} {K} {T} left asks failures taken source source' sink sink' start result = RunsAs (RanEntering {T = T}) left asks failures taken source source' sink sink' start result
+
+-- what stands behind a script that was run, whether entries are written or replies
+abbrev pub RanAs : {T : Type 0} → Bool → Start → List ℕ → List ℕ → Result T ScriptFault → List ℕ → Option (List ℕ) → Type 0
+RanAs false start bytes before r left after = Ran start bytes before r left after
+RanAs true start bytes before r left after = RanEntering start bytes before r left after

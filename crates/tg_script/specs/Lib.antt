@@ -2,6 +2,7 @@ pub mod Refusals
 pub mod Script
 pub mod Running
 pub mod Entering
+pub mod Watching
 pub mod Lines
 pub mod Opening
 pub mod Whole

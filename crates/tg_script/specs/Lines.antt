@@ -1,4 +1,4 @@
--- What comes of the next line of a script, and what that says of how its bytes are read.
+-- The outcome of the next line of a script, and what that says of how its bytes are read.
 use Rattle.std.specs.Prelude.{◌≡◌, ◌⊎◌, ℕ, ◌+◌, true, List, [], ◌∷◌, ◌++◌, Option, Some, None, Result, Ok, Err, IfErr}
 use Rattle.std.specs.List.{flat_map}
 use Rattle.tg_text.specs.declared.line.Line.{Line}
@@ -21,7 +21,7 @@ pub record IsNewScript (s : Script) (number : ℕ) : Type 0 where
   pub count : s.count ≡ 0
   pub opening : s.opening ≡ true
 
--- the line is taken: whatever is read behind it is read behind it
+-- the line is taken: whatever is read after it is read after it
 abbrev pub PassesLine : Script → List ℕ → Line → Script → List ℕ → Type 0
 PassesLine s bytes l t rest =
     (lines : List Line) (end : Option ScriptFault) (left : List ℕ) → ReadsFrom t rest lines end left → ReadsFrom s bytes (l ∷ lines) end left
@@ -32,17 +32,17 @@ IsOfReading fault.ReadFailed = Unit {0}
 IsOfReading fault.WriteFailed = Unit {0}
 IsOfReading f = IsOfBytes (Some f)
 
--- a fault that is met in reading lines and keeping them: one of reading, or want of memory
+-- a fault that is met in reading lines and keeping them: one of reading, or lack of memory
 abbrev pub IsOfKeeping : ScriptFault → Type 0
 IsOfKeeping f = IsOfReading f ⊎ (f ≡ fault.OutOfMemory)
 
--- a line, the end of the input, or the first fault, and the bytes that are left behind it
+-- a line, the end of the input, or the first fault, and the bytes that are left after it
 abbrev pub NextLine : Script → List ℕ → Result (Option Line) ScriptFault → Script → List ℕ → Type 0
 NextLine s bytes (Ok (Some l)) t rest = PassesLine s bytes l t rest
 NextLine s bytes (Ok None) t rest = ReadsFrom s bytes [] None rest
 NextLine s bytes (Err f) t rest = IsOfReading f × ReadsFrom s bytes [] (Some f) rest
 
--- the line may stand where it came, and now one more line was read
+-- the line may be where it came, and now one more line was read
 pub record Follows (s : Script) (l : Line) (t : Script) : Type 0 where
   pub stands : MayStand s.workers s.opening l
   pub workers : t.workers ≡ s.workers
@@ -59,7 +59,7 @@ TakesLine s (Err f) t = (f ≡ fault.BadLine (s.count + 1)) × IsBadText s.worke
 abbrev pub line_bytes : Line → List ℕ
 line_bytes l = line_text l ++ 10 ∷ []
 
--- what is left is all that stands behind these lines
+-- what is left is all that is after these lines
 abbrev pub IsBehind : List Line → List ℕ → List ℕ → Type 0
 IsBehind lines bytes left = bytes ≡ flat_map line_bytes lines ++ left
 

@@ -12,11 +12,11 @@ use Rattle.tg_text.specs.Reading.{MayStand}
 use Rattle.tg_model.specs.declared.value.Value.{Value}
 use Rattle.tg_script.specs.declared.run_script.Settings.{Settings}
 
--- a line that may stand behind the edges
+-- a line that may be after the edges
 abbrev pub IsCommand : Line → Type 0
 IsCommand l = MayStand 0 false l
 
--- a line may be answered: it may stand behind the edges, and the collector is ready, as this says
+-- a line may be answered: it may be after the edges, and the collector is ready, as this says
 pub record IsAnswerable (Ready : Type 0) (l : Line) : Type 0 where
   pub ready : Ready
   pub command : IsCommand l
@@ -28,8 +28,8 @@ edge_lines edges = map line.Edge edges
 abbrev pub plan_by : Settings → List Edge → List Value → Plan
 plan_by settings edges values = record { workers = settings.workers; edges = edges; values = values; limit = settings.max_vertices }
 
--- The store is opened with the plan, has no entry, and stands for the graph that the plan starts from; or a limit of the plan is
--- out of its range, or else memory was wanting, or a block for each worker where the heap may have so many.
+-- The store is opened with the plan, has no entry, and represents the graph that the plan starts from; or a limit of the plan is
+-- out of its range, or else memory ran out, or a block for each worker where the heap may have so many.
 abbrev pub OpensStore : Plan → ℕ → Result StoreState ScriptFault → Type 0
 OpensStore p blocks (Ok store) = HasLimits p × (p.workers ≤ blocks) × StandsFor store (start_of p) × (store.opening ≡ opened_by p) × (store.entries ≡ [])
 OpensStore p blocks (Err fault.BadLimits) = ¬ HasLimits p

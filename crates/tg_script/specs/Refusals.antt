@@ -1,4 +1,4 @@
--- How a fault of the store is told.
+-- How a fault of the store is reported.
 use Rattle.tg_space.specs.declared.room_fault.RoomFault.{RoomFault}
 use Rattle.tg_space.specs.declared.room_fault.RoomFault.TheVariants as no_room
 use Rattle.tg_model.specs.declared.reply.Reply.TheVariants as reply

@@ -8,7 +8,7 @@ use Rattle.tg_script.specs.Lines.{IsBehind, read_failures}
 use Rattle.tg_text.specs.Reading.{ReadsScript}
 use Rattle.tg_script.specs.Script.{IsCut, Start, HasRoomForWorkers, CanOpen, IsScriptOutput, commands_of, scene_of}
 
--- the text for the script, read up to this fault or to its end, stands behind what was written before
+-- the text for the script, read up to this fault or to its end, is after what was written before
 abbrev pub IsWritten : Start → List ℕ → List ℕ → Option ScriptFault → List ℕ → Option (List ℕ) → Type 0
 IsWritten start bytes before end left after = (text : List ℕ) × (after ≡ Some (before ++ text)) × IsScriptOutput start bytes end left text
 
@@ -22,16 +22,16 @@ abbrev pub IsUnkept : Start → List ℕ → List ℕ → Type 0
 IsUnkept start bytes left =
     (lines : List Line) × ReadsScript start.workers bytes lines (Some fault.OutOfMemory) left × (lines ≢ []) × (commands_of lines ≡ [])
 
--- the reply to the last of the lines that were read was cut off; no byte behind that line was read
+-- the reply to the last of the lines that were read was cut off; no byte after that line was read
 abbrev pub IsCutOff : Start → List ℕ → List ℕ → List ℕ → Option (List ℕ) → Type 0
 IsCutOff start bytes before left after =
     (lines : List Line) × (front : List ℕ) × ReadsScript start.workers bytes lines (Some fault.WriteFailed) left × IsBehind lines bytes left
     × CanOpen start × IsCut (scene_of start lines) (commands_of lines) front × (after ≡ Some (before ++ front))
 
--- What stands in the sink after a run over these bytes, where `before` stood in it, and what is left of them: the text for
--- all of the script, or for the lines before its first fault. Where the sink failed, all of that text, or all but the end of
--- the last reply; where the store wasn't opened, for want of memory, of a block for each worker, or for the limit, nothing
--- more. No byte behind the end of the run is read.
+-- What is in the sink after a run over these bytes, where `before` stood in it, and what is left of them: the text for all
+-- of the script, or for the lines before its first fault. Where the sink failed, all of that text, or all but the end of the
+-- last reply; where the store wasn't opened, for lack of memory, of a block for each worker, or for the limit, nothing more.
+-- No byte after the end of the run is read.
 abbrev pub Ran : {T : Type 0} → Start → List ℕ → List ℕ → Result T ScriptFault → List ℕ → Option (List ℕ) → Type 0
 Ran start bytes before (Ok done) left after = CanOpen start × IsWritten start bytes before None left after
 Ran start bytes before (Err fault.WriteFailed) left after = IsWritten start bytes before (Some fault.WriteFailed) left after ⊎ IsCutOff start bytes before left after
@@ -49,8 +49,8 @@ IsDue start fault.BadLimits = ¬ HasRoomForWorkers start
 IsDue start fault.HeapFull = start.blocks < start.workers
 IsDue start f = Unit {0}
 
--- A run from this start of which so much stands in its sink, by what its source and its sink tell: of the bytes that are left, how often
--- it was asked and has failed, and of the bytes that were taken.
+-- A run from this start of which so much is in its sink, by what its source and its sink tell: of the bytes that are left, how often it
+-- was asked and has failed, and of the bytes that were taken.
 pub record RunsAs {S K T : Type 0} (Stands : Start → List ℕ → List ℕ → Result T ScriptFault → List ℕ → Option (List ℕ) → Type 0) (left : S → Option (List ℕ))
     (asks failures : S → ℕ) (taken : K → Option (List ℕ)) (source source' : S) (sink sink' : K) (start : Start) (result : Result T ScriptFault) : Type 0 where
   pub output : (bytes before : List ℕ) → left source ≡ Some bytes → taken sink ≡ Some before →
@@ -63,7 +63,7 @@ pub record RunsAs {S K T : Type 0} (Stands : Start → List ℕ → List ℕ →
 abbrev pub RunsFrom : {S K T : Type 0} → (S → Option (List ℕ)) → (S → ℕ) → (S → ℕ) → (K → Option (List ℕ)) → S → S → K → K → Start → Result T ScriptFault → Type 0
 RunsFrom {S} {K} {T} left asks failures taken source source' sink sink' start result = RunsAs (Ran {T = T}) left asks failures taken source source' sink sink' start result
 
--- The sink was finished at the end of a run, and has failed where that is told.
+-- The sink was finished at the end of a run, and has failed where that is reported.
 pub record FinishesSink {K T : Type 0} (failures : K → ℕ) (is_finished : K → Bool) (sink sink' : K) (result : Result T ScriptFault) : Type 0 where
   pub write_failed : result ≡ Err fault.WriteFailed → failures sink < failures sink'
   pub unfailed : OnOk result (failures sink' ≡ failures sink)

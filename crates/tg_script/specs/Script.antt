@@ -40,13 +40,13 @@ create_of label value = deed.Create label value.law value.state
 abbrev pub spawn_of : RightSet → Value → Deed
 spawn_of label value = deed.Spawn label value.law value.state
 
--- What is left of a stock behind such a deed, of which this is the rest behind its first value. That is taken where a vertex was made,
+-- What is left of a stock after such a deed, of which this is the rest after its first value. That is taken where a vertex was made,
 -- which then is named.
 abbrev pub stock_left : Reply → List Value → List Value → List Value
 stock_left (reply.Name name) rest stock = rest
 stock_left other rest stock = stock
 
--- The answer to a line by which x makes a vertex, and the scene after it, where this stands in the stock.
+-- The answer to a line by which x makes a vertex, and the scene after it, where this is in the stock.
 abbrev pub AnswersMaking : Scene → ℕ → (Value → Deed) → List Value → Answer → Scene → Type 0
 AnswersMaking s x making [] a t = (a ≡ told.Refused refusal.Stock) × (t ≡ s)
 AnswersMaking s x making (value ∷ rest) a t =
@@ -54,7 +54,7 @@ AnswersMaking s x making (value ∷ rest) a t =
     × (t ≡ record s { graph = step s.graph x (making value); stock = stock_left (answer_of s.graph x (making value)) rest s.stock }))
     ⊎ ((¬ IsSubject s.graph x) × (a ≡ told.Refused refusal.Worker) × (t ≡ s))
 
--- The answer to a line and the scene after it, where nothing is wanting. A full collection answers the number of the
+-- The answer to a line and the scene after it, where nothing is lacking. A full collection answers the number of the
 -- vertices that can be reached, a collection of the nurseries no number, and neither changes anything that another line is
 -- answered by. Edge lines have no answer.
 abbrev pub Answers : Scene → Line → Answer → Scene → Type 0
@@ -67,7 +67,7 @@ Answers s (line.Plain x command) a t =
 Answers s line.Full a t = (n : ℕ) × IsCountOf (IsReachable s.graph) n × (a ≡ told.Collected (Some n)) × (t ≡ s)
 Answers s line.Minor a t = (a ≡ told.Collected None) × (t ≡ s)
 
--- what a collection by so many helpers may be refused for: threads can be wanting only where there is more than one
+-- what a collection by so many helpers may be refused for: threads can be lacking only where there is more than one
 abbrev pub MayWant : ℕ → Refusal → Type 0
 MayWant helpers refusal.Memory = Unit {0}
 MayWant helpers refusal.Heap = Unit {0}
@@ -77,8 +77,8 @@ MayWant helpers refusal.Vertices = ⊥
 MayWant helpers refusal.Workers = ⊥
 MayWant helpers refusal.Stock = ⊥
 
--- What may be answered in place of that, with nothing changed: memory may be wanting for each line that reaches the store, one
--- of a subject or a collection; room in the heap for a collection, and for a create, a spawn, a take or a grant that is allowed;
+-- What may be answered in place of that, with nothing changed: memory may run out for each line that reaches the store, one of a
+-- subject or a collection; room in the heap for a collection, and for a create, a spawn, a take or a grant that is allowed;
 -- threads for a collection by several helpers.
 abbrev pub MayAnswerRefused : Scene → Line → Refusal → Type 0
 MayAnswerRefused s (line.Create x label) refusal.Memory = IsSubject s.graph x × (s.stock ≢ [])
@@ -92,19 +92,19 @@ MayAnswerRefused s line.Full r = MayWant s.helpers r
 MayAnswerRefused s line.Minor r = MayWant s.helpers r
 MayAnswerRefused s l r = ⊥
 
--- the line is answered, or refused for want with the scene as it was
+-- the line is answered, or refused for lack with the scene as it was
 abbrev pub Serves : Scene → Line → Answer → Scene → Type 0
 Serves s l a t = Answers s l a t ⊎ ((r : Refusal) × MayAnswerRefused s l r × (a ≡ told.Refused r) × (t ≡ s))
 
 -- ---- the text for many lines
 
--- The text for the lines, where nothing is wanting.
+-- The text for the lines, where nothing is lacking.
 abbrev pub IsOutput : Scene → List Line → List ℕ → Type 0
 IsOutput s [] text = text ≡ []
 IsOutput s (l ∷ lines) text =
     (a : Answer) × (t : Scene) × (rest : List ℕ) × Answers s l a t × (text ≡ answer_text a ++ rest) × IsOutput t lines rest
 
--- The text for the lines, where memory or room may be wanting, and was for so many of them.
+-- The text for the lines, where memory or room may be lacking, and was for so many of them.
 abbrev pub IsAdmissible : Scene → List Line → ℕ → List ℕ → Type 0
 IsAdmissible s [] wants text = (wants ≡ 0) × (text ≡ [])
 IsAdmissible s (l ∷ lines) wants text =
@@ -130,7 +130,7 @@ edges_of (line.Plain x command ∷ lines) = []
 edges_of (line.Full ∷ lines) = []
 edges_of (line.Minor ∷ lines) = []
 
--- the lines behind them
+-- the lines after them
 abbrev pub commands_of : List Line → List Line
 commands_of [] = []
 commands_of (line.Edge edge ∷ lines) = commands_of lines

@@ -15,15 +15,14 @@ pub trait Collector {
     ghost use Rattle.tg_script.specs.Script.{MayWant};
     ghost use Rattle.tg_store.specs.Store.{IsCountOf, StandsFor};
 
-    /// What a caller has to know of the collector: where it shares a value among threads, that the value's type allows
-    /// it.
+    /// What a caller has to know of the collector. If it shares a value among threads, the value's type allows it.
     ghost Ready: { Type 0 };
 
     /// Collects the store with so many helpers, or with fewer. A full collection keeps exactly the vertices that can be
     /// reached, and returns how many there are. The number that a nursery collection returns isn't specified.
     ///
-    /// The call is refused with `Memory`, with `Heap` if a space needs more blocks than it may have, or with `Threads`
-    /// if there was to be more than one helper. The graph of the store is then unchanged.
+    /// The call is refused with `Memory`, with `Heap` if a space needs more blocks than it may have, or with `Threads`.
+    /// `Threads` comes only if there was to be more than one helper. The graph of the store is then unchanged.
     fn collect<P: Payload>(
         &self,
         store: &mut Store<P>,

@@ -1,14 +1,17 @@
 //! The run of a whole script that writes entries in the place of replies.
-ghost use Rattle.std.specs.Prelude.{◌≡◌, []};
+ghost use Rattle.std.specs.Prelude.{◌≡◌, [], true, OnOk};
 ghost use Rattle.tg_script.specs.Entering.{EntersFrom};
 ghost use Rattle.tg_script.specs.Inner.Beginning.{MayGoOn};
+ghost use Rattle.tg_script.specs.Inner.Marks.{SeesEntered};
 ghost use Rattle.tg_script.specs.Inner.Telling.{EntersCommands, UsesStreams};
 ghost use Rattle.tg_script.specs.Running.{FinishesSink};
 ghost use Rattle.tg_script.specs.Script.{MayRun, start_of_setup};
+ghost use Rattle.tg_script.specs.Watching.{SeesFrom};
 
 use crate::collector::Collector;
-use crate::run_script::{Begun, RunSetup, begin, finish, run_commands};
+use crate::run_script::{Begun, RunMeans, RunSetup, begin, finish, run_commands};
 use crate::telling::Entries;
+use crate::watch::{Unwatched, Watch};
 use std::alloc::Global;
 use tg_entries::{write_end, write_opening};
 use tg_payload::Payload;
@@ -33,9 +36,31 @@ pub fn run_script_entries<P: Payload, C: Collector, S: Source, K: Sink>(
     ensures entered { EntersFrom S.left S.asked S.failures K.taken source.old source.new sink.old sink.new (start_of_setup setup) result }
     ensures finish { FinishesSink K.failures K.finished sink.old sink.new result }
 {
-    match begin(alloc, source, sink, setup) {
+    let means = RunMeans {
+        alloc,
+        collector,
+        entries: true,
+    };
+    run_entries(means, source, sink, &mut Unwatched, setup)
+}
+
+/// Runs the script and writes entries.
+#[inline(always)]
+pub(crate) fn run_entries<P: Payload, C: Collector, S: Source, K: Sink, W: Watch>(
+    means: RunMeans<C>,
+    source: &mut S,
+    sink: &mut K,
+    watch: &mut W,
+    setup: RunSetup<P>,
+) -> Result<(), ScriptFault>
+    requires runnable { MayRun C.Ready setup.settings setup.workers.items }
+    ensures entered { EntersFrom S.left S.asked S.failures K.taken source.old source.new sink.old sink.new (start_of_setup setup) result }
+    ensures finish { FinishesSink K.failures K.finished sink.old sink.new result }
+    ensures seen { OnOk result (SeesFrom S.left K.taken W.refused source.old source.new sink.old sink.new watch.old watch.new true (start_of_setup setup)) }
+{
+    match begin(means.alloc, source, sink, setup) {
         Ok(mut begun) => {
-            let outcome = enter_all(collector, source, sink, &mut begun);
+            let outcome = enter_all(&mut begun, means.collector, source, sink, watch);
             drop(begun);
             finish(sink, outcome)
         }
@@ -43,24 +68,26 @@ pub fn run_script_entries<P: Payload, C: Collector, S: Source, K: Sink>(
     }
 }
 
-// Writes the opening, the entries of the lines from the first on that is no edge line, and how many these are. It
-// stands apart from the run that writes replies, and owns nothing where it leaves.
+// Writes the opening, the entries of the lines from the first on that is no edge line, and how many these are. It is
+// apart from the run that writes replies, and owns nothing where it leaves.
 #[inline(never)]
-fn enter_all<P: Payload, C: Collector, S: Source, K: Sink>(
+fn enter_all<P: Payload, C: Collector, S: Source, K: Sink, W: Watch>(
+    begun: &mut Begun<P>,
     collector: &C,
     source: &mut S,
     sink: &mut K,
-    begun: &mut Begun<P>,
+    watch: &mut W,
 ) -> Result<(), ScriptFault>
     requires runnable { MayGoOn C.Ready begun.old.script begun.old.first }
     requires none { begun.old.run.store.entries ≡ [] }
     ensures written { EntersCommands S.left K.taken source.old source.new sink.old sink.new begun.old result }
     ensures streams { UsesStreams S.asked S.failures K.failures source.old source.new sink.old sink.new begun.old.script begun.old.first result }
+    ensures seen { OnOk result (SeesEntered S.left K.taken W.refused source.old source.new sink.old sink.new watch.old watch.new begun.old) }
 {
     let Ok(()) = write_opening(sink, begun.run.store.opening()) else {
         return Err(ScriptFault::WriteFailed);
     };
-    let entered = run_commands::<P, Entries, C, S, K>(begun, collector, source, sink);
+    let entered = run_commands::<P, Entries, C, S, K, W>(begun, collector, source, sink, watch);
     // It tells that the entries are a legal history, whatever came of the lines.
     let count = begun.run.store.journal().len();
     entered?;

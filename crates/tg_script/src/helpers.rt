@@ -3,7 +3,7 @@
 use std::marker::Model;
 use tg_parallel::MOST_HELPERS;
 
-/// How many helpers each collection of a run has: from 1 to 8.
+/// How many helpers each collection of a run has, from 1 to 8.
 #[derive(Clone, Copy, Debug)]
 pub struct Helpers {
     number: u32,
@@ -24,7 +24,7 @@ impl Model for Helpers {
 impl Helpers {
     ghost use Rattle.std.specs.Prelude.{◌≡◌, ◌<◌, ◌≤◌, ◌⊎◌, IfNone, IfSome};
 
-    /// One helper: the thread that asks for a collection makes it alone.
+    /// One helper. The thread that asks for a collection makes it alone.
     pub fn one() -> Helpers
         ensures { result ≡ 1 }
     {

@@ -1,4 +1,4 @@
-//! Laws of the definitions alone. A function here does nothing: what it ensures is the law.
+//! Laws of the definitions alone. A function here does nothing. Its `ensures` is the law.
 ghost use Rattle.std.specs.Prelude.{◌≡◌, ℕ, List};
 ghost use Rattle.tg_text.specs.declared.line.Line.{Line};
 ghost use Rattle.tg_script.specs.Script.{Scene, IsOutput, IsAdmissible};

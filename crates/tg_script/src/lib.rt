@@ -1,10 +1,11 @@
-//! Scripts: a store that is driven by lines of text.
+//! Scripts. They drive a store by lines of text.
 //!
 //! A script is a list of lines. The first lines are the edges between the opening's workers. Then come commands, each
 //! of one subject, and collections. The bytes come from a [`Source`], and the replies go to a [`Sink`], one line each.
 //! [`run_script_with`] runs a whole script. It reads a line, answers it and writes the reply before it reads the next
 //! line. A [`Collector`] makes its collections. [`run_script_one`] is the run with [`OneThread`].
 //! [`run_script_entries`] is the same run, and writes the text of its history in place of replies.
+//! [`run_script_watched`] is either run, and shows each answer to a [`Watch`].
 //!
 //! `tg_text` has the spelling of lines and answers, and reads bytes. This crate exports what callers need of it. Its
 //! other definitions to believe are in `specs/`. `Script` says what the answers to the lines are, and in which cases a
@@ -27,6 +28,7 @@ mod run_script;
 mod script;
 mod supply;
 mod telling;
+mod watch;
 mod whole;
 
 pub use collector::{Collector, OneThread};
@@ -36,7 +38,8 @@ pub use helpers::Helpers;
 pub use opening::open_store;
 pub use refusals::{apply_refusal, collect_refusal, create_answer, helpers_refusal};
 pub use run_script::{
-    InMemory, RunSetup, Settings, run_in_memory, run_script_one, run_script_with,
+    InMemory, RunMeans, RunSetup, Settings, run_in_memory, run_script_one, run_script_watched,
+    run_script_with,
 };
 pub use tg_parallel::MOST_HELPERS;
 pub use tg_store::Limits;
@@ -45,4 +48,5 @@ pub use tg_text::{
     Put, Refusal, ScriptFault, Sink, Source, StockFault, StockItem, WriteFailed, Written, put_all,
     put_texts, read_line, read_stock, write_reply,
 };
+pub use watch::{NumberedLine, Unwatched, Watch, is_refusal};
 pub use whole::{WholeScript, read_script};

@@ -1,4 +1,4 @@
-//! The opening of a run: the edge lines of its script, and the store that they make.
+//! The opening of a run. It has the edge lines of its script, and the store that they make.
 ghost use Rattle.std.specs.Prelude.{◌≡◌, ℕ, List, Some, IfOk};
 ghost use Rattle.std.specs.List.{All};
 ghost use Rattle.tg_model.specs.Opened.{JoinsWorkers};

@@ -1,5 +1,5 @@
-//! How the faults of a store are told to who asked: as a refusal in the text of a reply. `Refusals` of `specs/` says
-//! what each fault is told as. Nothing here knows how a store came to it.
+//! How the faults of a store are reported in the reply. Each is a refusal with a text. `Refusals` of `specs/` has the
+//! refusal of each fault. Nothing here knows how a store came to it.
 ghost use Rattle.std.specs.Prelude.{◌≡◌};
 ghost use Rattle.tg_script.specs.Refusals.{apply_refusal, create_answer, collect_refusal, helpers_refusal};
 

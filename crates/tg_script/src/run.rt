@@ -1,4 +1,4 @@
-//! A run under way: the store and the stock, and how each line is answered.
+//! A run under way. It has the store and the stock, and answers each line.
 ghost use Rattle.std.specs.Prelude.{◌≡◌, ◌++◌, None};
 ghost use Rattle.tg_script.specs.Inner.Run.{making_answer, values_back};
 ghost use Rattle.tg_script.specs.Inner.Supply.{values_left};
@@ -69,7 +69,7 @@ impl<P: Payload> Run<P> {
         }
     }
 
-    // How many vertices the heap then has isn't told: the graph doesn't say it.
+    // The reply doesn't say how many vertices the heap then has, because the graph doesn't determine it.
     fn collect_nurseries<C: Collector>(&mut self, collector: &C) -> Answer
         requires { C.Ready }
         ensures answered { Handles self.old Line.Minor result self.new }

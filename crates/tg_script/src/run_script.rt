@@ -1,18 +1,23 @@
 //! The run of a whole script.
-ghost use Rattle.std.specs.Prelude.{◌≡◌, ◌≢◌, ℕ, List, [], Some, Err, true, IfErr, IfOk};
+ghost use Rattle.std.specs.Prelude.{◌≡◌, ◌≢◌, ℕ, List, [], Some, Err, false, true, IfErr, IfOk, OnOk};
 ghost use Rattle.tg_script.specs.Inner.Beginning.{Begins, BeginsStreams, IsBegun, MayGoOn};
 ghost use Rattle.tg_script.specs.Inner.Counting.{MayCountInMemory, RunsInMemory};
+ghost use Rattle.tg_script.specs.Inner.Marks.{SeesCommands};
 ghost use Rattle.tg_script.specs.Inner.Telling.{RunsCommands, UsesStreams};
-ghost use Rattle.tg_script.specs.Running.{Finishes, FinishesSink, IsDue, Ran, RunsFrom};
+ghost use Rattle.tg_script.specs.Entering.{RanAs};
+ghost use Rattle.tg_script.specs.Running.{Finishes, FinishesSink, IsDue, Ran, RunsAs, RunsFrom};
 ghost use Rattle.tg_script.specs.Script.{MayRun, MayStart, start_of_setup, start_with};
+ghost use Rattle.tg_script.specs.Watching.{SeesFrom};
 
 use crate::collector::{Collector, OneThread};
+use crate::entering::run_entries;
 use crate::helpers::Helpers;
 use crate::opening::{Front, open_store, read_edges};
 use crate::run::Run;
 use crate::script::Script;
 use crate::supply::Supply;
 use crate::telling::{Replies, Telling};
+use crate::watch::{NumberedLine, Unwatched, Watch};
 use std::alloc::Global;
 use std::marker::Brand;
 use std::sync::ledger::{Blank, Ledger};
@@ -27,8 +32,8 @@ pub struct Settings {
     pub workers: u64,
     /// How many helpers each collection has.
     pub helpers: Helpers,
-    /// The most vertices that may ever be made, subjects that are spawned included: from 1 to 2^24 and not below the
-    /// number of workers.
+    /// The most vertices that may ever be made, subjects that are spawned included. It is from 1 to 2^24, and not below
+    /// the number of workers.
     pub max_vertices: u64,
     /// How many blocks the heap may have.
     pub limits: Limits,
@@ -66,9 +71,73 @@ pub fn run_script_with<P: Payload, C: Collector, S: Source, K: Sink>(
     ensures ran { RunsFrom S.left S.asked S.failures K.taken source.old source.new sink.old sink.new (start_of_setup setup) result }
     ensures finish { FinishesSink K.failures K.finished sink.old sink.new result }
 {
-    match begin(alloc, source, sink, setup) {
+    let means = RunMeans {
+        alloc,
+        collector,
+        entries: false,
+    };
+    run_replies(means, source, sink, &mut Unwatched, setup)
+}
+
+/// How a script is run.
+#[derive_where(Clone, Copy)]
+pub struct RunMeans<'a, C> {
+    /// Where edges, the store and its journal take memory.
+    pub alloc: Global,
+    /// What makes the collections.
+    pub collector: &'a C,
+    /// Whether the text of the history is written in the place of replies.
+    pub entries: bool,
+}
+
+/// Runs the script as [`run_script_with`] does, or as [`run_script_entries`](crate::run_script_entries) does if entries
+/// are asked for. Shows each answer to the watch before its reply or its entry is written. A refusal has no entry, but
+/// the watch sees it.
+///
+/// If `Ok` is returned, the watch has seen the answers to exactly the lines after the edges, in their order.
+#[inline(always)]
+pub fn run_script_watched<P: Payload, C: Collector, S: Source, K: Sink, W: Watch>(
+    means: RunMeans<C>,
+    source: &mut S,
+    sink: &mut K,
+    watch: &mut W,
+    setup: RunSetup<P>,
+) -> Result<(), ScriptFault>
+    requires runnable { MayRun C.Ready setup.settings setup.workers.items }
+    ensures ran { RunsAs (RanAs means.entry.entries) S.left S.asked S.failures K.taken source.old source.new sink.old sink.new (start_of_setup setup) result }
+    ensures finish { FinishesSink K.failures K.finished sink.old sink.new result }
+    ensures seen { OnOk result (SeesFrom S.left K.taken W.refused source.old source.new sink.old sink.new watch.old watch.new means.entry.entries (start_of_setup setup)) }
+{
+    if means.entries {
+        run_entries(means, source, sink, watch, setup)
+    } else {
+        run_replies(means, source, sink, watch, setup)
+    }
+}
+
+// Runs the script and writes replies.
+#[inline(always)]
+fn run_replies<P: Payload, C: Collector, S: Source, K: Sink, W: Watch>(
+    means: RunMeans<C>,
+    source: &mut S,
+    sink: &mut K,
+    watch: &mut W,
+    setup: RunSetup<P>,
+) -> Result<(), ScriptFault>
+    requires runnable { MayRun C.Ready setup.settings setup.workers.items }
+    ensures ran { RunsFrom S.left S.asked S.failures K.taken source.old source.new sink.old sink.new (start_of_setup setup) result }
+    ensures finish { FinishesSink K.failures K.finished sink.old sink.new result }
+    ensures seen { OnOk result (SeesFrom S.left K.taken W.refused source.old source.new sink.old sink.new watch.old watch.new false (start_of_setup setup)) }
+{
+    match begin(means.alloc, source, sink, setup) {
         Ok(mut begun) => {
-            let outcome = run_commands::<P, Replies, C, S, K>(&mut begun, collector, source, sink);
+            let outcome = run_commands::<P, Replies, C, S, K, W>(
+                &mut begun,
+                means.collector,
+                source,
+                sink,
+                watch,
+            );
             drop(begun);
             finish(sink, outcome)
         }
@@ -218,24 +287,31 @@ pub(crate) fn begin<P: Payload, S: Source, K: Sink>(
     Ok(Begun { run, script, first })
 }
 
-/// Runs the lines from the first one on that is no edge line, if there is one, and writes the answer to each.
-pub(crate) fn run_commands<P: Payload, T: Telling, C: Collector, S: Source, K: Sink>(
+/// Runs the lines from the first one on that is no edge line, if there is one. Shows the answer to each to the watch,
+/// and writes it.
+pub(crate) fn run_commands<P: Payload, T: Telling, C: Collector, S: Source, K: Sink, W: Watch>(
     begun: &mut Begun<P>,
     collector: &C,
     source: &mut S,
     sink: &mut K,
+    watch: &mut W,
 ) -> Result<(), ScriptFault>
     requires runnable { MayGoOn C.Ready begun.old.script begun.old.first }
     ensures written { RunsCommands S.left K.taken T.told source.old source.new sink.old sink.new begun.old begun.new result }
     ensures kept { begun.new.run.store.opening ≡ begun.old.run.store.opening }
     ensures streams { UsesStreams S.asked S.failures K.failures source.old source.new sink.old sink.new begun.old.script begun.old.first result }
+    ensures seen { OnOk result (SeesCommands S.left K.taken W.refused T.told source.old source.new sink.old sink.new watch.old watch.new begun.old begun.new) }
 {
     let Some(first) = begun.first else {
         return Ok(());
     };
     let mut line = first;
     'lines: loop {
-        let Ok(()) = T::run_line(&mut begun.run, collector, sink, line) else {
+        let numbered = NumberedLine {
+            number: begun.script.count,
+            line,
+        };
+        let Ok(()) = T::run_line(&mut begun.run, collector, sink, watch, numbered) else {
             return Err(ScriptFault::WriteFailed);
         };
         let came = begun.script.next(source, sink)?;

@@ -67,7 +67,7 @@ impl Script {
         }
     }
 
-    // The line in the buffer, if it is one that may stand here.
+    // The line in the buffer, if it is one that may be here.
     #[inline(always)]
     fn take_line(&mut self) -> Result<Option<Line>, ScriptFault>
         requires { self.old.count + self.old.lines.room < MOST_BYTES }

@@ -1,4 +1,4 @@
-//! The stock of a run: the payloads for the vertices that its script makes.
+//! The stock of a run. It has the payloads for the vertices that its script makes.
 ghost use Rattle.std.specs.Prelude.{◌≡◌, ◌++◌, ◌∷◌, [], None, IfNone};
 ghost use Rattle.std.specs.Option.{option_to_list};
 ghost use Rattle.tg_script.specs.Inner.Supply.{values_left};

@@ -1,4 +1,4 @@
-//! How what came of a line is told: by its reply, or by the entry that it made.
+//! How the outcome of a line is written. It is the line's reply, or the entry that it made.
 ghost use Rattle.std.specs.Prelude.{Bool, false, true};
 ghost use Rattle.tg_script.specs.Opening.{IsAnswerable};
 ghost use Rattle.tg_script.specs.Inner.Run.{IsAsBefore, IsHeeded};
@@ -7,11 +7,12 @@ ghost use Rattle.tg_store.specs.Store.{HandsOut};
 
 use crate::collector::Collector;
 use crate::run::Run;
+use crate::watch::{NumberedLine, Watch};
 use tg_entries::write_entries;
 use tg_model::Reply;
 use tg_payload::Payload;
 use tg_store::Store;
-use tg_text::{Line, Sink, WriteFailed, write_reply};
+use tg_text::{Sink, WriteFailed, write_reply};
 
 // How many entries a run holds at most, and how many edges a list that it holds.
 const MOST_ENTRIES: usize = 32;
@@ -39,15 +40,16 @@ pub(crate) trait Telling {
     /// The text that reports a line.
     ghost told: { LineText };
 
-    /// Answers the line, and writes the text that reports it.
-    fn run_line<P: Payload, C: Collector, K: Sink>(
+    /// Answers the line, shows the answer to the watch, and writes the text that reports it.
+    fn run_line<P: Payload, C: Collector, K: Sink, W: Watch>(
         run: &mut Run<P>,
         collector: &C,
         sink: &mut K,
-        line: Line,
+        watch: &mut W,
+        numbered: NumberedLine,
     ) -> Result<(), WriteFailed>
-        requires answerable { IsAnswerable C.Ready line }
-        ensures { RunsLine told run.old line run.new (K.taken sink.old) (K.failures sink.old) result (K.taken sink.new) (K.failures sink.new) };
+        requires answerable { IsAnswerable C.Ready numbered.line }
+        ensures { RunsLine told run.old numbered.line run.new (K.taken sink.old) (K.failures sink.old) result (K.taken sink.new) (K.failures sink.new) (W.refused watch.old) (W.refused watch.new) };
 }
 
 /// Each line is reported by its reply. Entries are given up, many at a time, and a long list at once.
@@ -68,14 +70,16 @@ impl Telling for Replies {
     ghost told = { reply_of_line };
 
     #[inline(always)]
-    fn run_line<P: Payload, C: Collector, K: Sink>(
+    fn run_line<P: Payload, C: Collector, K: Sink, W: Watch>(
         run: &mut Run<P>,
         collector: &C,
         sink: &mut K,
-        line: Line,
+        watch: &mut W,
+        numbered: NumberedLine,
     ) -> Result<(), WriteFailed> {
         give_up_many(&mut run.store);
-        let answer = run.answer::<Replies, C>(collector, line);
+        let answer = run.answer::<Replies, C>(collector, numbered.line);
+        watch.see(&numbered, &answer);
         write_reply(sink, &answer)
     }
 }
@@ -93,15 +97,17 @@ impl Holding for Entries {
 impl Telling for Entries {
     ghost told = { entry_of_line };
 
-    fn run_line<P: Payload, C: Collector, K: Sink>(
+    fn run_line<P: Payload, C: Collector, K: Sink, W: Watch>(
         run: &mut Run<P>,
         collector: &C,
         sink: &mut K,
-        line: Line,
+        watch: &mut W,
+        numbered: NumberedLine,
     ) -> Result<(), WriteFailed> {
         // Those of the lines before were written.
         give_up_entries(&mut run.store);
-        let _ = run.answer::<Entries, C>(collector, line);
+        let answer = run.answer::<Entries, C>(collector, numbered.line);
+        watch.see(&numbered, &answer);
         write_entries(sink, run.store.journal().entries())
     }
 }

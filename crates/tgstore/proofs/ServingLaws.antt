@@ -7,6 +7,7 @@ use Rattle.tg_text.specs.declared.fault.ScriptFault.{ScriptFault}
 use Rattle.tg_text.specs.declared.fault.ScriptFault.TheVariants as script
 use Rattle.tg_text.specs.declared.stock.StockItem.TheVariants.{Cell}
 use Rattle.tg_script.specs.Script.{MayStart, start_with}
+use Rattle.tg_script.specs.Entering.{RanAs}
 use Rattle.tg_script.specs.Lines.{read_failures}
 use Rattle.tg_threads.specs.declared.fault.RaceFault.{RaceFault}
 use Rattle.tg_threads.specs.Race.{HasRaced, race_read_failures, race_write_failures}
@@ -16,7 +17,7 @@ use Rattle.tgstore.specs.declared.start.StartFault.TheVariants.{OutOfMemory}
 use Rattle.tgstore.specs.declared.stop.Stop.{Stop}
 use Rattle.tgstore.specs.declared.stop.Stop.TheVariants as stop
 use Rattle.tgstore.specs.Faults.{status_of_stop, stop_read_failures, stop_write_failures}
-use Rattle.tgstore.specs.Serving.{RanAs, Served, WasBegun, race_text_as, script_start_of}
+use Rattle.tgstore.specs.Serving.{Served, WasBegun, race_text_as, script_start_of}
 use Rattle.tgstore.specs.Starts.{IsReady}
 
 -- a script may start with a cell for each worker
@@ -35,7 +36,7 @@ raced_from start values stock bytes before r left after workers boxes raced =
     let Q : List Value → Type 0 = λ x. HasRaced (race_text_as start.entries) (start_with start.settings (replicate start.settings.workers (value_of_item Cell)) x) bytes before r left after in
     subst Q boxes (subst P workers raced)
 
--- where a fault is told as a stop, each other end stands
+-- where a fault is reported as a stop, each other end stands
 abbrev pub IsTold : {F : Type 0} → (F → Stop) → Result (Unit {0}) F → Result (Unit {0}) Stop → Type 0
 IsTold told outcome result = MatchResult outcome (λ done. result ≡ Ok done) (λ fault. IsErrAnd result (λ why. why ≡ told fault))
 
@@ -106,7 +107,7 @@ write_run_at (Err fault) one = absurd (omega arith)
 pub write_run : (outcome : Result (Unit {0}) ScriptFault) (result : Result (Unit {0}) Stop) (old new : ℕ) → told_as stop.Script outcome ≡ result → (outcome ≡ Err script.WriteFailed → old < new) → 1 ≤ stop_write_failures result → old < new
 write_run outcome result old new is more one = more (write_run_at outcome (subst (λ (x : Result (Unit {0}) Stop). 1 ≤ stop_write_failures x) (sym is) one))
 
--- where memory was wanting for the drafts
+-- where memory ran out for the drafts
 pub wanting : (result : Result (Unit {0}) Stop) → IsErrAnd result (λ why. why ≡ stop.Start OutOfMemory) → Err (stop.Start OutOfMemory) ≡ result
 wanting (Ok done) is = absurd is
 wanting (Err why) is = ap Err (sym is)

@@ -17,8 +17,8 @@ now_or None d = refl
 now_or (Some x) d = refl
 
 -- what was found in the words is what they say
-pub said_of : (words : List (List ℕ)) (found : Found) (o : Options) → rows_of found ≡ matches_of command_line words → AreFound found o.settings → IsFlag (one_text found (codes "race")) o.race → IsFlag (one_text found (codes "entries")) o.entries → IsFlag (one_text found (codes "why")) o.why → o.stock.now ≡ unwrap_or (first_value found (codes "stock")) [] → AreSaid words o
-said_of words found o rows numbers race entries why stock =
+pub said_of : (words : List (List ℕ)) (found : Found) (o : Options) → rows_of found ≡ matches_of command_line words → AreFound found o.settings → IsFlag (one_text found (codes "race")) o.race → IsFlag (one_text found (codes "entries")) o.entries → IsFlag (one_text found (codes "why")) o.why → IsFlag (one_text found (codes "strict")) o.strict → o.stock.now ≡ unwrap_or (first_value found (codes "stock")) [] → AreSaid words o
+said_of words found o rows numbers race entries why strict stock =
     let number : (name : List ℕ) → one_text found name ≡ one_of name (matches_of command_line words) = λ name. one_text-rows found name ∙ ap (one_of name) rows in
     record {
       workers = numbers.workers ∙ ap (number_or 2) (number (codes "workers"));
@@ -29,6 +29,7 @@ said_of words found o rows numbers race entries why stock =
       race = subst (λ t. IsFlag t o.race) (number (codes "race")) race;
       entries = subst (λ t. IsFlag t o.entries) (number (codes "entries")) entries;
       why = subst (λ t. IsFlag t o.why) (number (codes "why")) why;
+      strict = subst (λ t. IsFlag t o.strict) (number (codes "strict")) strict;
       stock = stock ∙ ap (λ t. unwrap_or t []) (first_value-rows found (codes "stock") ∙ ap (first_of (codes "stock")) rows);
     }
 

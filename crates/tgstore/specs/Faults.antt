@@ -1,4 +1,4 @@
--- How faults are told, and the statuses of the program.
+-- How faults are reported, and the statuses of the program.
 use Rattle.std.specs.Prelude.{ℕ, Result, Ok, Err}
 use Rattle.tg_text.specs.declared.stock.StockFault.{StockFault}
 use Rattle.tg_text.specs.declared.stock.StockFault.TheVariants as stock
@@ -31,6 +31,7 @@ status_of_stop stop.BadWords = 2
 status_of_stop stop.HelpUnwritten = 1
 status_of_stop (stop.Start start.BadStock) = 2
 status_of_stop (stop.Start start.BadLimits) = 2
+status_of_stop (stop.Start start.StrictRace) = 2
 status_of_stop (stop.Start start.OutOfMemory) = 1
 status_of_stop (stop.Script fault) = 1
 status_of_stop (stop.Race fault) = 1

@@ -1,5 +1,5 @@
 -- What a run starts from, and the faults that are looked for before any input is read.
-use Rattle.std.specs.Prelude.{◌≡◌, ◌<◌, ◌≤◌, ℕ, List, map, replicate}
+use Rattle.std.specs.Prelude.{◌≡◌, ◌<◌, ◌≤◌, ℕ, true, List, map, replicate}
 use Rattle.tg_model.specs.declared.opening.TheConstants.{MAX_WORKERS}
 use Rattle.tg_model.specs.declared.value.Value.{Value}
 use Rattle.tg_text.specs.declared.stock.StockItem.{StockItem}
@@ -9,7 +9,8 @@ use Rattle.tg_script.specs.declared.run_script.Settings.{Settings}
 use Rattle.tgstore.specs.Boxes.{value_of_item}
 use Rattle.tgstore.specs.declared.start.Start.{Start}
 use Rattle.tgstore.specs.declared.start.StartFault.{StartFault}
-use Rattle.tgstore.specs.declared.start.StartFault.TheVariants.{BadStock, BadLimits, OutOfMemory}
+use Rattle.tgstore.specs.declared.start.StartFault.TheVariants.{BadStock, BadLimits, StrictRace, OutOfMemory}
+use Rattle.tgstore.specs.declared.settings.Options.{Options}
 
 -- no stock has this text
 abbrev pub IsBadStock : List ℕ → Type 0
@@ -19,11 +20,12 @@ IsBadStock text = (items : List StockItem) → ¬ IsStockText text items
 abbrev pub MayHoldWorkers : Settings → Type 0
 MayHoldWorkers s = s.workers ≤ s.max_vertices
 
--- the first of the two that holds is the fault; memory is wanting only where the text is that of a stock
-abbrev pub IsStartFault : Settings → List ℕ → StartFault → Type 0
-IsStartFault settings text BadStock = IsBadStock text
-IsStartFault settings text BadLimits = (items : List StockItem) × IsStockText text items × (settings.max_vertices < settings.workers)
-IsStartFault settings text OutOfMemory = (items : List StockItem) × IsStockText text items
+-- the first of the three that holds is the fault; memory is wanting only where the text is that of a stock
+abbrev pub IsStartFault : Options → StartFault → Type 0
+IsStartFault o BadStock = IsBadStock o.stock.now
+IsStartFault o BadLimits = (items : List StockItem) × IsStockText o.stock.now items × (o.settings.max_vertices < o.settings.workers)
+IsStartFault o StrictRace = (items : List StockItem) × IsStockText o.stock.now items × MayHoldWorkers o.settings × (o.race ≡ true) × (o.strict ≡ true)
+IsStartFault o OutOfMemory = (items : List StockItem) × IsStockText o.stock.now items
 
 -- what a run asks of where it starts: the number of workers is in its range
 abbrev pub IsReady : Start → Type 0

@@ -1,5 +1,5 @@
 -- What the words of the command line say. How they are taken apart is clap's matter: behind the program's name `--NAME` takes
--- the next word, `--NAME=TEXT` takes the text, `--race`, `--entries` and `--why` stand alone, and no option comes twice.
+-- the next word, `--NAME=TEXT` takes the text, `--race`, `--entries`, `--why` and `--strict` stand alone, and no option comes twice.
 use Rattle.std.specs.Prelude.{◌≡◌, ℕ, Bool, true, false, List, [], ◌∷◌, Option, Some, None, codes, unwrap_or}
 use Rattle.std.specs.Option.{option_map_or}
 use Rattle.std.specs.Str.Parse.{digits_value, without_leading_plus}
@@ -52,6 +52,7 @@ option_rules =
     ∷ flag_rule (codes "race")
     ∷ flag_rule (codes "entries")
     ∷ flag_rule (codes "why")
+    ∷ flag_rule (codes "strict")
     ∷ []
 
 -- the program, which has a version
@@ -65,11 +66,13 @@ command_line =
     (with_rule
     (with_rule
     (with_rule
+    (with_rule
     (with_rule (with_rule (with_rule (with_rule bare_line (number_rule (codes "workers"))) (number_rule (codes "helpers"))) (number_rule (codes "vertices"))) (number_rule (codes "blocks")))
     (option_rule (codes "stock")))
     (flag_rule (codes "race")))
     (flag_rule (codes "entries")))
-    (flag_rule (codes "why"))
+    (flag_rule (codes "why")))
+    (flag_rule (codes "strict"))
 
 -- the number that a text writes, or this one where there is no text
 abbrev pub number_or : ℕ → Option (List ℕ) → ℕ
@@ -83,7 +86,7 @@ number_said name default words = number_or default (one_of name (matches_of comm
 abbrev pub text_said : List ℕ → List (List ℕ) → List ℕ
 text_said name words = unwrap_or (first_of name (matches_of command_line words)) []
 
--- an option with no value stands in the words, whose text is then `true`, or doesn't
+-- an option with no value is in the words, whose text is then `true`, or doesn't
 pub record IsFlag (text : Option (List ℕ)) (stands : Bool) : Type 0 where
   pub set : text ≡ Some (codes "true") → stands ≡ true
   pub unset : text ≡ Some (codes "false") → stands ≡ false
@@ -99,6 +102,7 @@ pub record AreSaid (words : List (List ℕ)) (o : Options) : Type 0 where
   pub race : IsFlag (one_of (codes "race") (matches_of command_line words)) o.race
   pub entries : IsFlag (one_of (codes "entries") (matches_of command_line words)) o.entries
   pub why : IsFlag (one_of (codes "why") (matches_of command_line words)) o.why
+  pub strict : IsFlag (one_of (codes "strict") (matches_of command_line words)) o.strict
   pub stock : o.stock.now ≡ text_said (codes "stock") words
 
 -- the numbers are those that were found in words which were taken apart; no space has more than 1,048,576 blocks

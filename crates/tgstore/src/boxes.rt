@@ -1,35 +1,49 @@
 //! The boxes of a run, which are what its vertices store.
-ghost use Rattle.std.specs.Prelude.{◌≡◌, IfOk, map, replicate};
+ghost use Rattle.std.specs.Prelude.{◌≡◌, IfOk, OnOk, map, replicate};
 ghost use Rattle.tg_text.specs.declared.stock.StockItem.TheVariants.{Cell};
 ghost use Rattle.tgstore.specs.Boxes.{value_of_item};
 ghost use Rattle.tgstore.specs.Serving.{ServesFrom};
 ghost use Rattle.tgstore.specs.Starts.{MayServe};
+ghost use Rattle.tgstore.specs.Strict.{WatchesFrom};
 
 use crate::host::RunHost;
-use crate::serving::{RunPayloads, serve};
+use crate::serving::{RunParts, serve};
 use crate::start::Start;
 use crate::stop::Stop;
 use std::alloc::{AllocError, Global};
 use std::sync::Wait;
 use std::thread::Threads;
 use tg_payload::{Draft, LawPayload, Payload};
-use tg_script::{Collector, Sink, Source, StockItem};
+use tg_script::{Collector, Sink, Source, StockItem, Watch};
 
 /// Runs the source's script from the start, with new boxes: a cell with 0 for each worker, and those of the stock.
-/// Memory may be wanting before it; then nothing is read or written.
-pub(crate) fn serve_with_boxes<R: Threads + Wait + Sync, C: Collector, S: Source, K: Sink>(
+/// Memory may be wanting before it; then nothing is read or written. The watch sees the answer to each line, but not
+/// those of a race.
+pub(crate) fn serve_with_boxes<
+    R: Threads + Wait + Sync,
+    C: Collector,
+    S: Source,
+    K: Sink,
+    W: Watch,
+>(
     host: &RunHost<R, C>,
     source: &mut S,
     sink: &mut K,
+    watch: &mut W,
     start: &Start,
 ) -> Result<(), Stop>
     requires servable { MayServe C.Ready start.now }
     ensures served { ServesFrom start.now (S.left source.old) (S.left source.new) (K.taken sink.old) (K.taken sink.new) result }
+    ensures seen { OnOk result (WatchesFrom start.now (S.left source.old) (S.left source.new) (K.taken sink.old) (K.taken sink.new) (W.refused watch.old) (W.refused watch.new)) }
 {
     let workers = new_cells(host.alloc, start.settings.workers)?;
     let stock = new_drafts(host.alloc, &start.stock)?;
-    let payloads = RunPayloads { workers, stock };
-    serve(host, source, sink, start, payloads)
+    let parts = RunParts {
+        start,
+        workers,
+        stock,
+    };
+    serve(host, source, sink, watch, parts)
 }
 
 // So many cells with 0. Fails only when out of memory.

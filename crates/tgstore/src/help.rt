@@ -49,6 +49,11 @@ pub const WHY: &str =
     "Writes why a line is bad, as a second line of standard error [default: only the
 number of the line]";
 
+pub const STRICT: &str =
+    "Reports each line that is denied or refused on standard error, with its number
+and its reply. If there is such a line, the exit status is 3 in the place of 0.
+--race can't be given with it [default: status 0]";
+
 pub const MANUAL: &str = "Script:
   A script has one command a line, and at most 1048576 bytes. A line has at most 256 bytes, and one space between words.
   X, Y and Z are names of vertices, and V is a number. RIGHTS are letters out of r (read), w (write), t (take), g (grant),
@@ -97,6 +102,7 @@ Exit status:
   0  the whole script was run
   1  the run stopped. Standard error has one line that says where and why
   2  the words of the command line were not accepted
+  3  --strict was given, the whole script was run, and a line was denied or refused
 
 Example:
   printf '0 create rw\\n0 list\\n' | tgstore --workers 1 --stock c

@@ -1,14 +1,14 @@
-//! The program: it reads a script from standard input, and writes a reply for each line to standard output.
+//! The program. It reads a script from standard input, and writes a reply for each line to standard output.
 //!
 //! It works in this order. It reads the words of the command line (`words`), and looks at the stock and the limits
 //! (`start`). Only then it makes buffers (`streams`) and boxes with drafts of them (`boxes`), and reads input
-//! (`serving`). If it has to say why a line is bad, `noted` keeps the last line that was read. Collections by several
-//! helpers run on threads (`on_threads`). A fault is one line on standard error and a status (`stop`). `obey` does all
-//! of it.
+//! (`serving`). If it has to say why a line is bad, `noted` keeps the last line that was read. A strict run reports
+//! lines that were denied or refused (`strict`). Collections by several helpers run on threads (`on_threads`). A fault
+//! is one line on standard error and a status (`stop`). `obey` does all of it.
 //!
 //! The definitions to believe are in `specs/`. `Words` says what the words ask for. `Ranges` and `Starts` say what is
-//! refused before any input is read. `Boxes` says what boxes begin with, `Serving` what a run reads and writes, and
-//! `Faults` what the statuses are.
+//! refused before any input is read. `Boxes` says what boxes begin with, `Serving` what a run reads and writes,
+//! `Faults` what the statuses are, and `Strict` which status a strict run has.
 #![tactic(auto)]
 
 mod boxes;
@@ -22,6 +22,7 @@ mod settings;
 mod start;
 mod stop;
 mod streams;
+mod strict;
 mod words;
 
 use program::obey;

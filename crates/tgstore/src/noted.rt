@@ -30,7 +30,8 @@ impl LastLine {
         self.is_ended = true;
     }
 
-    // Notes a byte. Those of a line before it go, and so do those that are more than a line may have.
+    // Notes a byte. The bytes of a line before it are dropped, and so are the bytes beyond the most that a line may
+    // have.
     fn push(&mut self, byte: u8) {
         if self.is_ended {
             self.bytes.clear();
@@ -51,7 +52,7 @@ pub(crate) struct Noted<S: Source + Drop> {
 }
 
 impl<S: Source + Drop> Noted<S> {
-    /// The source as it is; its lines are noted where that is asked for.
+    /// The source as it is. Its lines are noted if this is asked for.
     pub(crate) fn new(source: S, is_asked: bool) -> Noted<S>
         ensures { result.source ≡ source }
     {

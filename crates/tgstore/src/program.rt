@@ -9,6 +9,7 @@ use crate::settings::Options;
 use crate::start::{StartFault, prepare};
 use crate::stop::{Failure, Stop};
 use crate::streams::serve_buffered;
+use crate::strict::REFUSED_LINES;
 use crate::words::options;
 use clap::Error;
 use clap::error::ErrorKind;
@@ -18,9 +19,9 @@ use std::sync::Wait;
 use std::thread::Threads;
 use std::{env, io};
 
-/// Does what the words of the command line ask for: runs the reader's script and writes the replies to the writer, or
-/// prints the help. What goes wrong is one line on standard error, and a second one where it is asked why a line is
-/// bad. The exit status.
+/// Does what the words of the command line ask for. It runs the reader's script and writes the replies to the writer,
+/// or prints the help. A fault is one line on standard error. A second line says why a line is bad, if this is asked
+/// for. Returns the exit status.
 pub fn obey<R, I, O>(rt: &R, reader: I, writer: O) -> u8
 where
     R: AllocGlobal + Env + Print + Eprint + Threads + Wait + Sync,
@@ -28,10 +29,17 @@ where
     O: Write + Drop,
 {
     let outcome = obey_words(rt, reader, writer);
-    if let Err(failure) = &outcome {
-        tell_failure(rt, *failure);
+    match &outcome {
+        Ok(status) if *status == REFUSED_LINES => tell_refused(rt),
+        Ok(_) => (),
+        Err(failure) => tell_failure(rt, *failure),
     }
     exit_status(&outcome.map_err(|failure| failure.stop))
+}
+
+// Says why a strict run fails.
+fn tell_refused<R: Eprint>(rt: &R) {
+    let _ = eprintln!(rt; "tgstore: --strict: a line was denied or refused");
 }
 
 // Says why the program ended, and on a second line why a line is bad, where that was asked for.
@@ -66,7 +74,7 @@ where
     }
 }
 
-// The same, of words that are text.
+// Does what the words ask for, which are text, and returns the status.
 fn obey_texts<R, I, O>(rt: &R, reader: I, writer: O, words: &[String]) -> Result<u8, Failure>
 where
     R: AllocGlobal + Print + Eprint + Threads + Wait + Sync,
@@ -74,7 +82,7 @@ where
     O: Write + Drop,
 {
     match options(rt.alloc(), words) {
-        Ok(options) => serve_streams(rt, reader, writer, &options).and(Ok(0)),
+        Ok(options) => serve_streams(rt, reader, writer, &options),
         Err(error) => tell(rt, &error).map_err(Failure::from),
     }
 }
@@ -106,10 +114,10 @@ fn tell<R: Print + Eprint>(rt: &R, error: &Error) -> Result<u8, Stop> {
     }
 }
 
-// Runs the reader's script, and writes the replies.
-fn serve_streams<R, I, O>(rt: &R, reader: I, writer: O, options: &Options) -> Result<(), Failure>
+// Runs the reader's script, and writes the replies. Answers the status.
+fn serve_streams<R, I, O>(rt: &R, reader: I, writer: O, options: &Options) -> Result<u8, Failure>
 where
-    R: AllocGlobal + Threads + Wait + Sync,
+    R: AllocGlobal + Eprint + Threads + Wait + Sync,
     I: Read + Drop,
     O: Write + Drop,
     requires { AreInRange options.now.settings }

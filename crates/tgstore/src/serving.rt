@@ -1,12 +1,11 @@
 //! A run with payloads, from a source to a sink.
-ghost use Rattle.std.specs.Prelude.{◌≡◌, ◌+◌, ◌<◌, ◌≤◌, ℕ, List, Some, true, OnOk, map};
-ghost use Rattle.tg_script.specs.Lines.{read_failures};
-ghost use Rattle.tg_script.specs.Running.{FinishesSink};
-ghost use Rattle.tg_script.specs.Script.{MayRun, MayStart, start_of_setup};
+ghost use Rattle.std.specs.Prelude.{◌≡◌, ◌+◌, ◌<◌, ◌≤◌, true, OnOk, map};
+ghost use Rattle.tg_script.specs.Script.{MayStart, start_of_setup};
 ghost use Rattle.tg_threads.specs.Race.{FinishesRace, RacesFrom};
 ghost use Rattle.tgstore.specs.Faults.{stop_read_failures, stop_write_failures};
-ghost use Rattle.tgstore.specs.Serving.{RanAs, ServesFrom, WasBegun, race_text_as};
+ghost use Rattle.tgstore.specs.Serving.{ServesFrom, WasBegun, race_text_as};
 ghost use Rattle.tgstore.specs.Starts.{HasPayloads, MayServe};
+ghost use Rattle.tgstore.specs.Strict.{WatchesFrom};
 
 use crate::host::RunHost;
 use crate::start::Start;
@@ -15,13 +14,14 @@ use std::sync::Wait;
 use std::thread::Threads;
 use tg_payload::{Draft, Payload};
 use tg_script::{
-    Collector, RunSetup, ScriptFault, Sink, Source, drafts_of, run_script_entries, run_script_with,
+    Collector, RunMeans, RunSetup, Sink, Source, Watch, drafts_of, run_script_watched,
 };
 use tg_threads::{Entries, NoTurnstile, RaceFault, Replies, run_race};
 
-/// The payloads of a run.
+/// What a run starts from, with its payloads.
 #[derive(Drop)]
-pub struct RunPayloads<P: Payload> {
+pub struct RunParts<'a, P: Payload> {
+    pub start: &'a Start,
     /// What each worker stores, by rising name.
     pub workers: Vec<P>,
     /// What the vertices that are made store, in order.
@@ -31,24 +31,37 @@ pub struct RunPayloads<P: Payload> {
 /// Runs the source's script from the start with these payloads, and puts the replies into the sink, as
 /// `run_script_with` does with the start's settings, or, where the start says so, as `run_race` does, and then entries
 /// in the place of replies, as `run_script_entries` and `run_race` with `Entries` do. Memory may be wanting for drafts
-/// of what the workers store; then nothing is read or written.
+/// of what the workers store; then nothing is read or written. The watch sees the answer to each line, but not those
+/// of a race.
 #[inline(always)]
-pub fn serve<P: Payload + Send, R: Threads + Wait + Sync, C: Collector, S: Source, K: Sink>(
+pub fn serve<
+    P: Payload + Send,
+    R: Threads + Wait + Sync,
+    C: Collector,
+    S: Source,
+    K: Sink,
+    W: Watch,
+>(
     host: &RunHost<R, C>,
     source: &mut S,
     sink: &mut K,
-    start: &Start,
-    payloads: RunPayloads<P>,
+    watch: &mut W,
+    parts: RunParts<P>,
 ) -> Result<(), Stop>
-    requires servable { MayServe C.Ready start.now }
-    requires payloads { HasPayloads start.now (map P.value payloads.workers.items) payloads.stock.items }
-    ensures served { ServesFrom start.now (S.left source.old) (S.left source.new) (K.taken sink.old) (K.taken sink.new) result }
+    requires servable { MayServe C.Ready parts.start.now }
+    requires payloads { HasPayloads parts.start.now (map P.value parts.workers.items) parts.stock.items }
+    ensures served { ServesFrom parts.entry.start.now (S.left source.old) (S.left source.new) (K.taken sink.old) (K.taken sink.new) result }
     ensures read_failed { S.failures source.new ≡ S.failures source.old + stop_read_failures result }
     ensures write_failed { 1 ≤ stop_write_failures result → K.failures sink.old < K.failures sink.new }
     ensures unfailed { OnOk result (K.failures sink.new ≡ K.failures sink.old) }
     ensures finished { WasBegun result → K.finished sink.new ≡ true }
+    ensures seen { OnOk result (WatchesFrom parts.entry.start.now (S.left source.old) (S.left source.new) (K.taken sink.old) (K.taken sink.new) (W.refused watch.old) (W.refused watch.new)) }
 {
-    let RunPayloads { workers, stock } = payloads;
+    let RunParts {
+        start,
+        workers,
+        stock,
+    } = parts;
     let workers = drafts_of(host.alloc, workers)?;
     let setup = RunSetup {
         settings: start.settings,
@@ -58,30 +71,12 @@ pub fn serve<P: Payload + Send, R: Threads + Wait + Sync, C: Collector, S: Sourc
     if start.race {
         return race(host, source, sink, start.entries, setup).map_err(Stop::Race);
     }
-    run(host, source, sink, start.entries, setup).map_err(Stop::Script)
-}
-
-// Runs the script line by line, and writes replies, or entries where that is asked for.
-#[inline(always)]
-fn run<P: Payload, R, C: Collector, S: Source, K: Sink>(
-    host: &RunHost<R, C>,
-    source: &mut S,
-    sink: &mut K,
-    entries: bool,
-    setup: RunSetup<P>,
-) -> Result<(), ScriptFault>
-    requires runnable { MayRun C.Ready setup.settings setup.workers.items }
-    ensures ran { (bytes before : List ℕ) → S.left source.old ≡ Some bytes → K.taken sink.old ≡ Some before →
-        (rest : List ℕ) × (S.left source.new ≡ Some rest)
-        × RanAs entries (start_of_setup setup) bytes before result rest (K.taken sink.new) }
-    ensures read_failed { S.failures source.new ≡ S.failures source.old + read_failures result }
-    ensures finish { FinishesSink K.failures K.finished sink.old sink.new result }
-{
-    if entries {
-        run_script_entries(host.alloc, host.collector, source, sink, setup)
-    } else {
-        run_script_with(host.alloc, host.collector, source, sink, setup)
-    }
+    let means = RunMeans {
+        alloc: host.alloc,
+        collector: host.collector,
+        entries: start.entries,
+    };
+    run_script_watched(means, source, sink, watch, setup).map_err(Stop::Script)
 }
 
 // Runs the script as a race, and writes replies, or entries where that is asked for.

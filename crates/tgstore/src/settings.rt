@@ -12,6 +12,8 @@ pub struct Options<'a> {
     pub entries: bool,
     /// Whether it is said why a line is bad.
     pub why: bool,
+    /// Whether a line that is denied or refused fails the run.
+    pub strict: bool,
     /// The text of the stock, as it was written.
     pub stock: &'a str,
 }

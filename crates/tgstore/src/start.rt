@@ -1,5 +1,5 @@
 //! What a run starts from, and what is wrong with it before any input is read.
-ghost use Rattle.std.specs.Prelude.{◌≡◌, IfOk, IfErr};
+ghost use Rattle.std.specs.Prelude.{◌≡◌, false, true, IfOk, IfErr};
 ghost use Rattle.tg_text.specs.Stock.{IsStockText};
 ghost use Rattle.tgstore.specs.Ranges.{AreInRange};
 ghost use Rattle.tgstore.specs.Starts.{MayHoldWorkers, IsReady, IsStartFault};
@@ -19,11 +19,14 @@ pub struct Start {
     pub entries: bool,
     /// Whether it is said why a line is bad.
     pub why: bool,
+    /// Whether a line that is denied or refused fails the run. A race isn't strict.
+    pub strict: bool,
     /// The kinds of the boxes for the vertices that are made, in order.
     pub stock: Vec<StockItem>,
 }
 
-/// Why a run can't start. The first that holds is answered, in this order but for memory, which may be wanting first.
+/// Why a run can't start. The first reason that holds is returned, in this order. Only memory may run out before the
+/// others are checked.
 #[derive(Clone, Copy, PartialEq, Eq, Debug, Error)]
 pub enum StartFault {
     /// The text is that of no stock.
@@ -32,6 +35,9 @@ pub enum StartFault {
     /// Fewer vertices may be made than there are workers.
     #[error("bad limits")]
     BadLimits,
+    /// A race was to be strict.
+    #[error("--strict doesn't see the lines of a race: give --strict or --race, and not both")]
+    StrictRace,
     /// There was no memory for the boxes.
     #[error("out of memory")]
     OutOfMemory,
@@ -62,28 +68,34 @@ impl From<StockFault> for StartFault {
     }
 }
 
-/// What the options ask for. Else `BadStock`, then `BadLimits`, exactly where they hold, or `OutOfMemory`; a bad stock
-/// is found whatever memory there is.
+/// What the options ask for. Else `BadStock`, then `BadLimits`, then `StrictRace`, exactly where they hold, or
+/// `OutOfMemory`. A bad stock is found whatever memory there is.
 pub fn prepare(alloc: Global, options: &Options) -> Result<Start, StartFault>
     requires { AreInRange options.now.settings }
     ensures settings { IfOk result (λ start. (start.settings ≡ options.now.settings) × MayHoldWorkers start.settings) }
     ensures race { IfOk result (λ start. start.race ≡ options.now.race) }
     ensures entries { IfOk result (λ start. start.entries ≡ options.now.entries) }
     ensures why { IfOk result (λ start. start.why ≡ options.now.why) }
+    ensures strict { IfOk result (λ start. start.strict ≡ options.now.strict) }
+    ensures no_race { IfOk result (λ start. start.race ≡ true → start.strict ≡ false) }
     ensures stock { IfOk result (λ start. IsStockText options.now.stock.now start.stock.items) }
     ensures ready { IfOk result IsReady }
-    ensures refused { IfErr result (IsStartFault options.now.settings options.now.stock.now) }
+    ensures refused { IfErr result (IsStartFault options.now) }
 {
     let settings = options.settings;
     let stock = read_stock(alloc, options.stock.as_bytes())?;
     if settings.max_vertices < settings.workers {
         return Err(StartFault::BadLimits);
     }
+    if options.race && options.strict {
+        return Err(StartFault::StrictRace);
+    }
     Ok(Start {
         settings,
         race: options.race,
         entries: options.entries,
         why: options.why,
+        strict: options.strict,
         stock,
     })
 }

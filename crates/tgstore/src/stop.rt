@@ -8,7 +8,7 @@ use tg_script::ScriptFault;
 use tg_threads::RaceFault;
 use thiserror::Error;
 
-/// Why the program ended before the whole script was run: the line on standard error, after its name.
+/// Why the program ended before the whole script was run. It is the line on standard error, after the program's name.
 #[derive(Clone, Copy, PartialEq, Eq, Debug, Error)]
 pub enum Stop {
     /// A word of the command line is no text.
@@ -75,7 +75,9 @@ impl Stop {
         ensures { result ≡ status_of_stop self }
     {
         match self {
-            Stop::BadWords | Stop::Start(StartFault::BadStock | StartFault::BadLimits) => 2,
+            Stop::BadWords
+            | Stop::Start(StartFault::BadStock | StartFault::BadLimits | StartFault::StrictRace) =>
+                2,
             Stop::HelpUnwritten
             | Stop::Start(StartFault::OutOfMemory)
             | Stop::Script(_)

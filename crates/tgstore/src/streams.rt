@@ -1,17 +1,19 @@
 //! A run between a reader and a writer.
-ghost use Rattle.std.specs.Prelude.{◌≡◌, IfErr, IfOk};
+ghost use Rattle.std.specs.Prelude.{◌≡◌, ◌↔◌, false, IfErr, IfOk, IsOk, OnOk};
 ghost use Rattle.std.specs.Io.Buffered.{reader_remaining, writer_contents};
 ghost use Rattle.tg_script.specs.Inner.Counting.{MayCountStreams};
 ghost use Rattle.tgstore.specs.Faults.{status_of_stop};
 ghost use Rattle.tgstore.specs.Serving.{ServesFrom};
 ghost use Rattle.tgstore.specs.Starts.{MayServe};
+ghost use Rattle.tgstore.specs.Strict.{HasStatus};
 
 use crate::boxes::serve_with_boxes;
 use crate::host::RunHost;
 use crate::noted::Noted;
 use crate::start::{Start, StartFault};
 use crate::stop::{Failure, Stop};
-use std::io::{BufRead, BufReader, BufWriter, Read, Write};
+use crate::strict::{StrictWatch, strict_status};
+use std::io::{BufRead, BufReader, BufWriter, Eprint, Read, Write};
 use std::marker::Brand;
 use std::sync::Wait;
 use std::sync::ledger::{Blank, Ledger};
@@ -21,33 +23,43 @@ use tg_script::{Collector, Count, OfRead, OfWrite};
 /// How many bytes are read, and how many are written, at once.
 const BLOCK: usize = 65536;
 
-/// A run that is over: its reader with what is left, its writer with what was written, how it ended, and why a line was
-/// bad, where that was asked for.
+/// A run that is over: its reader with what is left, its writer with what was written, how it ended, with its exit
+/// status, and why a line was bad, where that was asked for.
 #[derive(Drop)]
 pub(crate) struct Ended<R: Drop, W: Drop> {
     pub reader: R,
     pub writer: W,
     pub outcome: Result<(), Stop>,
+    /// The exit status of a run to the end of its script.
+    pub status: u8,
     pub reason: Option<&'static str>,
 }
 
 impl<R: Drop, W: Drop> Ended<R, W> {
-    /// How the run ended, and why a line was bad, where that was asked for.
-    pub(crate) fn into_outcome(self) -> Result<(), Failure> {
+    /// The exit status of a run to the end of its script, or how the run ended before, and why a line was bad, where
+    /// that was asked for.
+    pub(crate) fn into_outcome(self) -> Result<u8, Failure>
+        ensures status { IfOk result (λ status. status ≡ self.status) }
+        ensures ended { IsOk result ↔ IsOk self.outcome }
+    {
         let Ended {
             outcome,
+            status,
             reason,
             ..
         } = self;
-        outcome.map_err(|stop| Failure { stop, reason })
+        match outcome {
+            Ok(()) => Ok(status),
+            Err(stop) => Err(Failure { stop, reason }),
+        }
     }
 }
 
 /// Runs the reader's script from the start with new boxes, and writes the replies. Whatever was written is flushed
-/// before more is read than the reader holds, and at the end, after a fault too. Memory may be wanting for the two
-/// buffers; then nothing is read or written.
+/// before more is read than the reader holds, and at the end, after a fault too. If memory runs out for the two
+/// buffers, nothing is read or written.
 pub(crate) fn serve_buffered<
-    T: Threads + Wait + Sync,
+    T: Threads + Wait + Sync + Eprint,
     C: Collector,
     R: Read + Drop,
     W: Write + Drop,
@@ -61,6 +73,9 @@ pub(crate) fn serve_buffered<
     ensures status { IfErr result (λ stop. status_of_stop stop ≡ 1) }
     ensures served { IfOk result (λ ended.
         ServesFrom start.now (R.remaining reader) (reader_remaining R.remaining ended.reader) (W.contents writer) (writer_contents W.contents ended.writer) ended.outcome) }
+    ensures strict { IfOk result (λ ended. OnOk ended.outcome
+        (HasStatus start.now (R.remaining reader) (reader_remaining R.remaining ended.reader) (W.contents writer) (writer_contents W.contents ended.writer) ended.status)) }
+    ensures lax { IfOk result (λ ended. start.now.strict ≡ false → ended.status ≡ 0) }
 {
     let Ok(reader) = BufReader::with_capacity(host.alloc, BLOCK, reader) else {
         return Err(Stop::Start(StartFault::OutOfMemory));
@@ -91,7 +106,7 @@ fn serve_counted<
     A: Ledger,
     B: Ledger,
     F: Ledger,
-    T: Threads + Wait + Sync,
+    T: Threads + Wait + Sync + Eprint,
     C: Collector,
     R: BufRead + Drop,
     W: Write + Drop,
@@ -99,6 +114,9 @@ fn serve_counted<
     requires servable { MayServe C.Ready start.now }
     requires countable { MayCountStreams A.name A.parts B.name B.parts F.name F.parts blanks.asked blanks.read_failures blanks.write_failures }
     ensures served { ServesFrom start.now (R.remaining reader) (R.remaining result.reader) (W.contents writer) (W.contents result.writer) result.outcome }
+    ensures strict { OnOk result.outcome
+        (HasStatus start.now (R.remaining reader) (R.remaining result.reader) (W.contents writer) (W.contents result.writer) result.status) }
+    ensures lax { start.now.strict ≡ false → result.status ≡ 0 }
 {
     let StreamBlanks {
         asked,
@@ -108,7 +126,9 @@ fn serve_counted<
     let (asked, read_failures) = (Count::<A>::new(asked), Count::<B>::new(read_failures));
     let mut source = Noted::new(OfRead::new(reader, asked, read_failures), start.why);
     let mut sink = OfWrite::new(writer, Count::<F>::new(write_failures));
-    let outcome = serve_with_boxes(host, &mut source, &mut sink, start);
+    let mut watch = StrictWatch::new(host.rt, start.strict);
+    let outcome = serve_with_boxes(host, &mut source, &mut sink, &mut watch, start);
+    let status = strict_status(start.strict, watch.has_refused);
     let reason = source.reason(&outcome, start.settings.workers);
     let OfRead { reader, .. } = source.source;
     let OfWrite { writer, .. } = sink;
@@ -116,6 +136,7 @@ fn serve_counted<
         reader,
         writer,
         outcome,
+        status,
         reason,
     }
 }

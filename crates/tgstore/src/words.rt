@@ -29,10 +29,10 @@ pub const DEFAULT_VERTICES: u64 = 1_000_000;
 /// How many blocks the heap may have where the words don't say it.
 pub const DEFAULT_BLOCKS: u64 = 4096;
 
-/// Reads the words, the first of which is the program's name: the options that they say, and the defaults of those that
-/// they don't. `Ok` only where each number is in its range: workers from 1 to 64, helpers from 1 to 8, vertices from 1
-/// to 2^24, blocks from 1 to 65,536. An `Err` is the text for the user, of the help and the version as of a fault, or
-/// want of memory.
+/// Reads the words, the first of which is the program's name. Returns the options that they say, and the defaults of
+/// all other options. `Ok` is returned only if each number is in its range. The ranges are 1 to 64 for workers, 1 to 8
+/// for helpers, 1 to 2^24 for vertices, and 1 to 65,536 for blocks. An `Err` is the text for the user, which is the
+/// help, the version or a fault. Or it is a lack of memory.
 pub fn options<'a, S: AsStr>(alloc: Global, words: &'a [S]) -> Result<Options<'a>, Error>
     ensures said { IfOk result (AreSaid (map S.text words.entry.now)) }
     ensures in_range { IfOk result (λ o. AreInRange o.settings) }
@@ -43,7 +43,7 @@ pub fn options<'a, S: AsStr>(alloc: Global, words: &'a [S]) -> Result<Options<'a
     }
 }
 
-// The same, by this command line.
+// Reads the words by this command line.
 fn options_by<'a, S: AsStr>(
     alloc: Global,
     command: &mut Command<'a>,
@@ -73,6 +73,7 @@ fn options_of<'a>(matches: &ArgMatches<'a>) -> Result<Options<'a>, BadNumber>
     ensures race { IfOk result (λ o. IsFlag (one_text (found_of matches.now) (codes "race")) o.race) }
     ensures entries { IfOk result (λ o. IsFlag (one_text (found_of matches.now) (codes "entries")) o.entries) }
     ensures why { IfOk result (λ o. IsFlag (one_text (found_of matches.now) (codes "why")) o.why) }
+    ensures strict { IfOk result (λ o. IsFlag (one_text (found_of matches.now) (codes "strict")) o.strict) }
     ensures stock { IfOk result (λ o. o.stock.now ≡ unwrap_or (first_value (found_of matches.now) (codes "stock")) []) }
     ensures in_range { IfOk result (λ o. AreInRange o.settings) }
 {
@@ -82,6 +83,7 @@ fn options_of<'a>(matches: &ArgMatches<'a>) -> Result<Options<'a>, BadNumber>
             race: matches.get_flag("race"),
             entries: matches.get_flag("entries"),
             why: matches.get_flag("why"),
+            strict: matches.get_flag("strict"),
             stock: matches.get_str("stock").unwrap_or(""),
         }),
         Err(bad) => Err(bad),
@@ -143,6 +145,7 @@ fn command<'a>(alloc: Global) -> Result<Command<'a>, AllocError>
         arg_of(alloc, "race", help::RACE, ArgAction::SetTrue),
         arg_of(alloc, "entries", help::ENTRIES, ArgAction::SetTrue),
         arg_of(alloc, "why", help::WHY, ArgAction::SetTrue),
+        arg_of(alloc, "strict", help::STRICT, ArgAction::SetTrue),
     ]?;
     match bare_command(alloc) {
         Ok(command) => command.args(options),
@@ -150,7 +153,7 @@ fn command<'a>(alloc: Global) -> Result<Command<'a>, AllocError>
     }
 }
 
-// The same, without its options.
+// The command line without its options.
 fn bare_command<'a>(alloc: Global) -> Result<Command<'a>, AllocError>
     ensures { IfOk result (λ command. app_of command ≡ bare_line) }
 {
@@ -205,7 +208,7 @@ fn number(
     }
 }
 
-// The error of a number that is not in its range, or want of memory.
+// The error of a number that is not in its range, or lack of memory.
 fn error_of(alloc: Global, command: &mut Command, matches: &ArgMatches, bad: BadNumber) -> Error {
     match tell_range(alloc, command, matches, bad) {
         Ok(error) => error,

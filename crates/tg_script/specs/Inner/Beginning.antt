@@ -1,4 +1,4 @@
--- How a run begins: what is read of its script up to the line behind the edges, and the store that is opened.
+-- How a run begins: what is read of its script up to the line after the edges, and the store that is opened.
 use Rattle.std.specs.Prelude.{◌≡◌, ◌≢◌, ◌⊎◌, ℕ, ◌+◌, ◌<◌, ◌≤◌, false, IfErr, IfOk, IfSome, List, [], ◌∷◌, ◌++◌, Option, Some, None, Result, Ok, Err}
 use Rattle.std.specs.List.{All}
 use Rattle.tg_model.specs.declared.edge.Edge.{Edge}
@@ -20,37 +20,37 @@ use Rattle.tg_script.specs.Inner.Run.{Shows}
 
 -- ---- the edge lines, and the line behind them
 
--- the line that came is no edge line, and none may come behind it
+-- the line that came is no edge line, and none may come after it
 abbrev pub IsBehindEdges : Script → Option Line → Type 0
 IsBehindEdges s first = IfSome first (λ l. IsCommand l × (s.opening ≡ false))
 
--- the edges join two workers each, and no edge line stands behind them
+-- the edges join two workers each, and no edge line is after them
 pub record IsFront (workers : ℕ) (front : Front) : Type 0 where
   pub edges : All (JoinsWorkers workers) front.edges.items
   pub first : IsBehindEdges front.script front.first
 
--- these lines of a script were taken: whatever is read behind them is read behind them
+-- these lines of a script were taken: whatever is read after them is read after them
 abbrev pub ReadsFront : ℕ → List ℕ → List Line → Script → List ℕ → Type 0
 ReadsFront workers bytes front t rest =
     (lines : List Line) (end : Option ScriptFault) (left : List ℕ) → ReadsFrom t rest lines end left → ReadsScript workers bytes (front ++ lines) end left
 
--- where no further line came the script ended behind these, else they and that line were taken
+-- where no further line came the script ended after these, else they and that line were taken
 abbrev pub ReadsFirst : ℕ → List ℕ → List Line → Option Line → Script → List ℕ → Type 0
 ReadsFirst workers bytes front None t rest = ReadsScript workers bytes front None rest
 ReadsFirst workers bytes front (Some l) t rest = ReadsFront workers bytes (front ++ l ∷ []) t rest
 
--- only edge lines were read, up to this fault; where that is want of memory, it was for the last of them
+-- only edge lines were read, up to this fault; where that is lack of memory, it was for the last of them
 pub record StopsAtEdges (workers : ℕ) (bytes : List ℕ) (f : ScriptFault) (rest : List ℕ) : Type 0 where
   pub edges : List Edge
   pub some : f ≡ fault.OutOfMemory → edges ≢ []
   pub reads : ReadsScript workers bytes (edge_lines edges) (Some f) rest
 
--- the edge lines, up to the first other line, to the end or to the first fault, and what is left behind them
+-- the edge lines, up to the first other line, to the end or to the first fault, and what is left after them
 abbrev pub ReadsEdges : ℕ → List ℕ → Result Front ScriptFault → List ℕ → Type 0
 ReadsEdges workers bytes (Ok front) rest = ReadsFirst workers bytes (edge_lines front.edges.items) front.first front.script rest
 ReadsEdges workers bytes (Err f) rest = StopsAtEdges workers bytes f rest
 
--- what a source was asked for where edge lines were read and nothing more was done; behind a further line it is what the script took
+-- what a source was asked for where edge lines were read and nothing more was done; after a further line it is what the script took
 pub record AsksForEdges {S K : Type 0} (asks read : S → ℕ) (written : K → ℕ) (takes : K → Option (List ℕ)) (source source' : S) (sink sink' : K)
     (result : Result Front ScriptFault) : Type 0 where
   pub reading : OnlyReads IsOfKeeping read written takes source source' sink sink' result
@@ -66,7 +66,7 @@ plan_with start edges = record { workers = start.workers; edges = edges; values 
 abbrev pub scene_with : Start → List Edge → Scene
 scene_with start edges = record { graph = start_of (plan_with start edges); stock = start.stock; helpers = start.helpers }
 
--- the store was opened with the edges, and no line behind them was run
+-- the store was opened with the edges, and no line after them was run
 pub record IsBegun {P : Type 0} (start : Start) (begun : Begun P) : Type 0 where
   pub can : CanOpen start
   pub opening : begun.run.store.opening ≡ opened_by (plan_with start begun.run.store.opening.plan.edges)
@@ -74,7 +74,7 @@ pub record IsBegun {P : Type 0} (start : Start) (begun : Begun P) : Type 0 where
   pub shows : Shows begun.run (scene_with start begun.run.store.opening.plan.edges)
   pub first : IsBehindEdges begun.script begun.first
 
--- Why no run has begun, and what is left of the script then: a fault at the edge lines, or behind them the limits, or want of memory or
+-- Why no run has begun, and what is left of the script then: a fault at the edge lines, or after them the limits, or lack of memory or
 -- of a block for each worker.
 abbrev pub Unbegun : Start → List ℕ → ScriptFault → List ℕ → Type 0
 Unbegun start bytes fault.OutOfMemory left =
@@ -97,7 +97,7 @@ pub record BeginsStreams {S K P : Type 0} (asks read : S → ℕ) (written : K �
   pub asked : asks source' ≤ asks source + 1048577
   pub asked_of_line : IfOk result (λ begun. IfSome begun.first (λ _. asks source' + begun.script.lines.room ≡ asks source + 1048576))
 
--- the lines behind the edges may be run: none of them is an edge line, and the collector is ready, as this says
+-- the lines after the edges may be run: none of them is an edge line, and the collector is ready, as this says
 pub record MayGoOn (Ready : Type 0) (s : Script) (first : Option Line) : Type 0 where
   pub ready : Ready
   pub commands : IsBehindEdges s first

@@ -17,7 +17,7 @@ use Rattle.tg_script.specs.Entering.{entered}
 use Rattle.tg_script.specs.Inner.Supply.{values_left}
 use Rattle.tg_script.specs.Script.{Scene, Serves}
 
--- the store stands for the scene's graph, its stock is left, and its collections have as many helpers
+-- the store represents the scene's graph, its stock is left, and its collections have as many helpers
 abbrev pub ShowsBy : StoreState → List Value → ℕ → Scene → Type 0
 ShowsBy store values helpers s = StandsFor store s.graph × (values ≡ s.stock) × (helpers ≡ s.helpers)
 

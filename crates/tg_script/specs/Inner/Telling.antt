@@ -1,5 +1,5 @@
 -- Parts of a run, which are the same whether it tells its lines by replies or by entries.
-use Rattle.std.specs.Prelude.{◌≡◌, ◌⊎◌, ℕ, ◌+◌, ◌≤◌, IfErr, IfNone, IfSome, List, [], ◌∷◌, ◌++◌, length, Option, Some, None, Result, Ok, Err, IsOk}
+use Rattle.std.specs.Prelude.{◌≡◌, ◌⊎◌, ℕ, ◌+◌, ◌≤◌, Bool, IfErr, IfNone, IfSome, List, [], ◌∷◌, ◌++◌, length, Option, Some, None, Result, Ok, Err, IsOk}
 use Rattle.std.specs.List.{flat_map}
 use Rattle.tg_model.specs.declared.value.Value.{Value}
 use Rattle.tg_model.specs.Opened.{Plan, IsPlan}
@@ -20,10 +20,11 @@ use Rattle.tg_script.specs.Lines.{CountsFailures, IsBehind, IsOfReading, ReadsFr
 use Rattle.tg_script.specs.Inner.Run.{Handles, MakesEntry, Shows}
 use Rattle.tg_script.specs.Script.{Scene, Serves}
 use Rattle.tg_script.specs.Inner.Supply.{values_left}
+use Rattle.tg_script.specs.Watching.{Sees}
 
--- ---- what is told of lines
+-- ---- what is reported of lines
 
--- what is told of a line that was answered so, where this was left of the stock
+-- what is reported of a line that was answered so, where this was left of the stock
 abbrev pub LineText : Type 0
 LineText = Line → Answer → List Value → List ℕ
 
@@ -33,10 +34,10 @@ reply_of_line l a stock = answer_text a
 abbrev pub entry_of_line : LineText
 entry_of_line l a stock = flat_map entry_text (entered l a stock)
 
--- the line was answered, its entry was made, and what is told of it was written, or a front of that
-abbrev pub RunsLine : {P T E : Type 0} → LineText → Run P → Line → Run P → Option (List ℕ) → ℕ → Result T E → Option (List ℕ) → ℕ → Type 0
-RunsLine told old l new before failures result after failures' =
-    (a : Answer) × Handles old l a new × MakesEntry old l a new × Writes before failures (told l a (values_left old.supply)) result after failures'
+-- the line was answered, its entry was made, what is told of it was written, or a front of that, and a watch has seen the answer
+abbrev pub RunsLine : {P T E : Type 0} → LineText → Run P → Line → Run P → Option (List ℕ) → ℕ → Result T E → Option (List ℕ) → ℕ → Option Bool → Option Bool → Type 0
+RunsLine told old l new before failures result after failures' saw saw' =
+    (a : Answer) × Handles old l a new × MakesEntry old l a new × Writes before failures (told l a (values_left old.supply)) result after failures' × Sees saw a saw'
 
 -- the text for the lines, and their entries
 abbrev pub TellsLines : LineText → Scene → List Line → List ℕ → List Entry → Type 0
@@ -45,7 +46,7 @@ TellsLines told s (l ∷ lines) text es =
     (a : Answer) × (t : Scene) × (rest : List ℕ) × (more : List Entry) × Serves s l a t × (text ≡ told l a s.stock ++ rest) × (es ≡ entered l a s.stock ++ more)
     × TellsLines told t lines rest more
 
--- the same where what is told of the last line was cut short
+-- the same where what is reported of the last line was cut short
 abbrev pub TellsCut : LineText → Scene → List Line → List ℕ → List Entry → Type 0
 TellsCut told s [] front es = ⊥
 TellsCut told s (l ∷ []) front es =
@@ -56,26 +57,26 @@ TellsCut told s (l ∷ m ∷ lines) front es =
 
 -- ---- from the first line on that is no edge line
 
--- the lines behind the first are read so far, and the text and the entries are those of all of them
+-- the lines after the first are read so far, and the text and the entries are those of all of them
 abbrev pub IsTold : LineText → Script → List ℕ → Scene → Line → Option ScriptFault → List ℕ → List ℕ → List Entry → Type 0
 IsTold told s bytes t first end left text es = (lines : List Line) × ReadsFrom s bytes lines end left × TellsLines told t (first ∷ lines) text es
 
--- such a text stands behind what was written before, and such entries behind those that there were
+-- such a text is after what was written before, and such entries after those that there were
 abbrev pub StandsTold : LineText → Script → List ℕ → Scene → Line → List Entry → List ℕ → Option ScriptFault → List ℕ → List Entry → Option (List ℕ) → Type 0
 StandsTold told s bytes t first begun before end left entries after =
     (text : List ℕ) × (es : List Entry) × (after ≡ Some (before ++ text)) × (entries ≡ begun ++ es) × IsTold told s bytes t first end left text es
 
--- what is told of one of them was cut short, and this much of the text stands
+-- what is reported of one of them was cut short, and this much of the text stands
 abbrev pub CutsTold : LineText → Script → List ℕ → Scene → Line → List ℕ → List ℕ → List Entry → Type 0
 CutsTold told s bytes t first left front es =
     (lines : List Line) × ReadsFrom s bytes lines (Some fault.WriteFailed) left × IsBehind lines bytes left × TellsCut told t (first ∷ lines) front es
 
--- such a part of a text stands behind what was written before, and such entries behind those that there were
+-- such a part of a text is after what was written before, and such entries after those that there were
 abbrev pub StandsCut : LineText → Script → List ℕ → Scene → Line → List Entry → List ℕ → List ℕ → List Entry → Option (List ℕ) → Type 0
 StandsCut told s bytes t first begun before left entries after =
     (front : List ℕ) × (es : List Entry) × (after ≡ Some (before ++ front)) × (entries ≡ begun ++ es) × CutsTold told s bytes t first left front es
 
--- what stands in the sink after the lines from the first on that is no edge line, which entries there are, and what is left behind them
+-- what is in the sink after the lines from the first on that is no edge line, which entries there are, and what is left after them
 abbrev pub TellsAll : {T : Type 0} → LineText → Script → List ℕ → Scene → Line → List Entry → List ℕ → Result T ScriptFault → List ℕ → List Entry → Option (List ℕ) → Type 0
 TellsAll told s bytes t first begun before (Ok done) left entries after = StandsTold told s bytes t first begun before None left entries after
 TellsAll told s bytes t first begun before (Err fault.WriteFailed) left entries after =
@@ -89,8 +90,8 @@ abbrev pub TellsFirst : {T : Type 0} → LineText → Script → List ℕ → Sc
 TellsFirst told s bytes t None begun before r left entries after = IsOk r × (left ≡ bytes) × (entries ≡ begun) × (after ≡ Some before)
 TellsFirst told s bytes t (Some l) begun before r left entries after = TellsAll told s bytes t l begun before r left entries after
 
--- The same by what source and sink tell beside their bytes: no fault was met but one of reading, each failure is told, and the source was
--- asked for no more than the script may take.
+-- The same by what source and sink tell beside their bytes: no fault was met but one of reading, each failure is reported, and the source
+-- was asked for no more than the script may take.
 pub record UsesStreams {S K T : Type 0} (asks read : S → ℕ) (written : K → ℕ) (source source' : S) (sink sink' : K) (s : Script) (first : Option Line)
     (result : Result T ScriptFault) : Type 0 where
   pub fault : IfErr result IsOfReading
@@ -98,7 +99,7 @@ pub record UsesStreams {S K T : Type 0} (asks read : S → ℕ) (written : K →
   pub asked : IfSome first (λ _. asks source' ≤ asks source + s.lines.room + 1)
   pub unasked : IfNone first (asks source' ≡ asks source)
 
--- these are the lines from the first on that is no edge line; where there is none, no fault but of writing is met behind it
+-- these are the lines from the first on that is no edge line; where there is none, no fault but of writing is met after it
 abbrev pub ReadsCommands : Script → List ℕ → Option Line → List Line → Option ScriptFault → List ℕ → Type 0
 ReadsCommands s bytes None lines None left = (lines ≡ []) × (left ≡ bytes)
 ReadsCommands s bytes None lines (Some f) left = (lines ≡ []) × (left ≡ bytes) × (f ≡ fault.WriteFailed)
@@ -108,7 +109,7 @@ ReadsCommands s bytes (Some l) lines end left = (more : List Line) × (lines ≡
 abbrev pub AreLegal : Scene → List Line → List Entry → Type 0
 AreLegal t lines es = AreEntered t lines es × IsLegal t.graph es
 
--- what stands in the sink after the opening, the lines and the end, and what is left behind them
+-- what is in the sink after the opening, the lines and the end, and what is left after them
 abbrev pub EntersAll : {T : Type 0} → Script → List ℕ → Scene → Option Line → Plan → List ℕ → Result T ScriptFault → List ℕ → Option (List ℕ) → Type 0
 EntersAll s bytes t first p before (Ok done) left after =
     (lines : List Line) × (es : List Entry) × ReadsCommands s bytes first lines None left × AreLegal t lines es × IsPlan p × (after ≡ Some (before ++ history_text p es))
@@ -123,7 +124,7 @@ EntersAll s bytes t first p before (Err f) left after =
 -- ---- by what source and sink tell of their bytes
 
 -- Whatever scene the run shows: what its lines from the first on leave in the sink, which entries there are then, and what is left
--- behind them.
+-- after them.
 abbrev pub RunsCommands : {S K P T : Type 0} → (S → Option (List ℕ)) → (K → Option (List ℕ)) → LineText → S → S → K → K → Begun P → Begun P → Result T ScriptFault → Type 0
 RunsCommands left taken told source source' sink sink' begun begun' result =
     (t : Scene) (rest before : List ℕ) → Shows begun.run t → left source ≡ Some rest → taken sink ≡ Some before →

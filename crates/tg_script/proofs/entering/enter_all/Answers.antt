@@ -5,6 +5,7 @@ use Rattle.tg_text.specs.Sinks.{Wrote, WroteSome}
 use Rattle.tg_entries.specs.Texts.{head_text}
 use Rattle.tg_script.proofs.LinesLaws.{err_is}
 use Rattle.tg_script.proofs.DueLaws.{uses_no_line}
+use Rattle.tg_script.proofs.MarkLaws.{entries_seen}
 use Rattle.tg_script.proofs.EnteringLaws.{as_end, as_opening, enters_done, enters_end_cut, enters_fault, enters_opening_cut, has_entries, legal_from}
 use Rattle.tg_script.proofs.entering.enter_all.Goals as goal
 
@@ -80,3 +81,19 @@ returns-in_err-entered-clause-streams g c =
       asked = uses.asked;
       unasked = uses.unasked;
     })
+
+pub returns-clause-seen : goal.returns-clause-seen
+returns-clause-seen g c = λ t rest before shows left taken.
+    let k = g.K.Sink in
+    let s = c.args.begun.now.run.store in
+    let new = c.run_commands-entered.new.begun.run.store in
+    let begun = as_opening Wrote s.opening.plan c.opening.result.now before (k.taken c.args.sink.now) (k.taken c.write_opening.new.sink) c.opening.ensures taken c.in-Ok.ensures.0 in
+    let n = c.in_ok-entered.ensures.seen t rest (before ++ head_text s.opening.plan) shows left begun in (
+      n.0,
+      n.1,
+      entries_seen (g.W.Watch.refused c.args.watch.now) (g.W.Watch.refused c.run_commands-entered.new.watch) c.args.begun.now.script rest t c.args.begun.now.first s.opening.plan s.entries before n.0 new.entries (k.taken c.run_commands-entered.new.sink) (k.taken c.write_end.new.sink) c.requires.none n.2
+          (as_end Wrote c.journal.result.now.entries new.entries c.len-count.result (k.taken c.run_commands-entered.new.sink) (k.taken c.write_end.new.sink) c.len-count.ensures c.journal.ensures.entries c.in-Ok-write_end.ensures.0),
+    )
+
+pub returns-in_err-entered-clause-seen : goal.returns-in_err-entered-clause-seen
+returns-in_err-entered-clause-seen g c = rw (err_is c.from_residual.result _ c.from_residual.ensures.1) tt

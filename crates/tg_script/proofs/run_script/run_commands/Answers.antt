@@ -1,12 +1,17 @@
-use Rattle.std.proofs.Common.{refl, ◌+◌, ◌∙◌, arith, sym, Some, None}
+use Rattle.std.proofs.Common.{refl, ap, append-nil, [], ◌+◌, ◌∙◌, arith, sym, Some, None}
 use Rattle.std.proofs.lemmas.Option.{same_Some}
 use Rattle.tg_script.specs.Inner.Supply.{values_left}
 use Rattle.tg_script.proofs.LinesLaws.{err_is, no_failures, wrote_keeps}
+use Rattle.tg_script.proofs.MarkLaws.{marks_end, marks_first, marks_next, sees_none}
 use Rattle.tg_script.proofs.CommandLaws.{under_first, under_end, under_cut, under_next, tells_fault, next_command}
 use Rattle.tg_script.proofs.run_script.run_commands.Goals as goal
 
 pub returns-in_default-clause-written : goal.returns-in_default-clause-written
 returns-in_default-clause-written g c = λ t rest before shows left taken. rw c.in_default.is (rest, left, (refl, refl, refl, taken))
+
+pub returns-in_default-clause-seen : goal.returns-in_default-clause-seen
+returns-in_default-clause-seen g c = λ t rest before shows left taken.
+    rw c.in_default.is (rest, left, ([], (refl, refl, refl, refl), taken ∙ ap Some (sym (append-nil before)), sees_none (g.W.Watch.refused c.args.watch.now)))
 
 pub lines-init : goal.lines-init
 lines-init g c =
@@ -17,6 +22,7 @@ lines-init g c =
       command = behind.0;
       opening = behind.1;
       under = λ first t rest before is shows left taken. under_first first c.in-Some.first (same_Some first c.in-Some.first (sym is ∙ c.in-Some.is)) shows left taken;
+      seen = λ first t rest before is shows left taken. marks_first (g.W.Watch.refused c.args.watch.now) first c.in-Some.first (same_Some first c.in-Some.first (sym is ∙ c.in-Some.is)) shows left taken;
       failures = no_failures s.failures k.failures c.args.source.now c.args.sink.now;
       kept = refl {a = c.args.begun.now.run.store.opening};
       asked = refl {a = s.asked c.args.source.now + c.args.begun.now.script.lines.room};
@@ -72,6 +78,19 @@ returns-in_default-came-clause-written g c = λ t rest before shows left taken.
     let n = ends u.rest u.leaves in
     rw c.in-Some.is (n.0, n.1, under_end w.0 c.run_line.new.run (k.taken c.next.new.sink) None n.0 u w.1 w.2 wrote n.2)
 
+pub returns-in_default-came-clause-seen : goal.returns-in_default-came-clause-seen
+returns-in_default-came-clause-seen g c = λ t rest before shows left taken.
+    let k = g.K.Sink in
+    let w = c.in-Ok.ensures in
+    let ends = rw c.in_default-came.is at c.in_ok-came.ensures.bytes in
+    let u = c.lines.invariant.seen c.in-Some.first t rest before c.in-Some.is shows left taken in
+    let wrote = wrote_keeps (k.taken c.lines.sink) (k.taken c.run_line.new.sink) (k.taken c.next.new.sink) (g.T.Telling.told c.lines.line w.0 (values_left c.lines.begun.run.supply)) w.3.0 c.in_ok-came.ensures.reading.taken in
+    let n = ends u.under.rest u.under.leaves in
+    rw c.in-Some.is (n.0, n.1, marks_end w.0 c.run_line.new.run (k.taken c.next.new.sink) n.0 (g.W.Watch.refused c.run_line.new.watch) u w.1 w.2 wrote w.4 n.2)
+
+pub returns-in_err-came-clause-seen : goal.returns-in_err-came-clause-seen
+returns-in_err-came-clause-seen g c = rw (err_is c.from_residual.result _ c.from_residual.ensures.1) tt
+
 pub returns-in_default-came-clause-streams : goal.returns-in_default-came-clause-streams
 returns-in_default-came-clause-streams g c =
     let had = c.lines.invariant.failures in
@@ -99,6 +118,8 @@ lines-preserved g c =
       opening = n.1;
       under = λ first t rest before is shows left taken.
           under_next w.0 c.run_line.new.run (k.taken c.next.new.sink) c.in-Some-came.next c.next.new.self (g.S.Source.left c.next.new.source) (c.lines.invariant.under first t rest before is shows left taken) w.1 w.2 wrote came;
+      seen = λ first t rest before is shows left taken.
+          marks_next w.0 c.run_line.new.run (k.taken c.next.new.sink) c.in-Some-came.next c.next.new.self (g.S.Source.left c.next.new.source) (g.W.Watch.refused c.run_line.new.watch) (c.lines.invariant.seen first t rest before is shows left taken) w.1 w.2 wrote w.4 came;
       failures = record { read_failed = omega (arith, reading.failures.read_failed, had.read_failed); write_failed = omega (arith, reading.failures.write_failed, w.3.1, had.write_failed) };
       asked = omega (arith, asked, c.lines.invariant.asked);
       kept = w.2.opening ∙ c.lines.invariant.kept;

@@ -1,5 +1,5 @@
 use Rattle.std.proofs.Common.{refl}
-use Rattle.tgstore.proofs.ServingLaws.{served_none, wanting, wanting_status}
+use Rattle.tgstore.proofs.ServingLaws.{served_none, wanting, wanting_status, wanting_unfailed}
 use Rattle.tgstore.proofs.boxes.serve_with_boxes.Goals as goal
 
 pub returns-in_err-workers : goal.returns-in_err-workers
@@ -10,6 +10,7 @@ returns-in_err-workers g c =
         status = wanting_status c.from_residual.result is;
         output = λ bytes before left taken. (bytes, left, served_none c.args.start.now bytes before c.from_residual.result bytes _ is refl taken);
       };
+      seen = wanting_unfailed c.from_residual.result _ is;
     }
 
 pub returns-in_err-stock : goal.returns-in_err-stock
@@ -20,4 +21,5 @@ returns-in_err-stock g c =
         status = wanting_status c.from_residual-in_err-stock.result is;
         output = λ bytes before left taken. (bytes, left, served_none c.args.start.now bytes before c.from_residual-in_err-stock.result bytes _ is refl taken);
       };
+      seen = wanting_unfailed c.from_residual-in_err-stock.result _ is;
     }
