@@ -53,7 +53,7 @@ module _ (plan : Plan) (p : Saved) where
         (subst (IsLegal (graph_shown p)) (sym before) (placeholders_legal p (first_there p.picture.subjects acts)))
         (ap (graph_after (graph_shown p)) before ∙ graph_still_shown p) stands names refl
 
-  -- a store with the placeholders alone stands for the graph that the snapshot shows
+  -- a store with the placeholders alone represents the graph that the snapshot shows
   stands_shown : (s : StoreState) → s.opening ≡ opened_again plan p → s.entries ≡ placeholders p → StandsFor s (graph_shown p)
   stands_shown s opening entries = (λ i. graph_after (start_at (opening i)) (entries i)) ∙ graph_still_shown p
 

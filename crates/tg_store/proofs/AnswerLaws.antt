@@ -1,4 +1,4 @@
--- The reply to a served command, computed on the content of a heap, is that of the graph that it stands for.
+-- The reply to a served command, computed on the content of a heap, is that of the graph that it represents.
 use Rattle.std.proofs.Common.{◌≡◌, ℕ, ◌<◌, ◌+◌, List, None, Some, refl, sym, ap, subst, ◌∙◌, arith}
 use Rattle.std.proofs.lemmas.List.Sums.{get_or-le-sum_by}
 use Rattle.std.specs.List.{All, sum_by}
@@ -63,7 +63,7 @@ looked-none c x command reply is =
 pub made-plain : (g : ProtectionGraph) (x : ℕ) (command : Command) → (step g x (Plain command)).made ≡ g.made
 made-plain g x command = plain_cases g x (λ k. k.made ≡ g.made) command refl (λ allowed. refl)
 
--- ---- what comes of a command on the heap
+-- ---- the outcome of a command on the heap
 
 -- one that is served
 served : (old new : HeapState) (x : ℕ) (command : Command) (reply : Reply) → denial_of (content_of old).label (content_of old).value x command ≡ None → IsReplyOn (content_of old) x command reply → IsContentAfter (content_of old) (content_of new) x command

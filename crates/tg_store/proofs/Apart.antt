@@ -1,4 +1,5 @@
--- What is not another, and what is the same. It is told of plain variables: a tactic in an answer reads all that is known there.
+-- What is not another, and what is the same. It is stated of plain variables: a tactic in an answer reads all that is known
+-- there.
 use Rattle.std.proofs.Common.{◌≡◌, ℕ, Bool, true, false, Result, Ok, Err, subst}
 use Rattle.std.specs.Prelude.{IfOk}
 use Rattle.tg_model.specs.declared.making.Making.TheVariants.{Object, Subject}

@@ -237,7 +237,7 @@ module _ (g : ProtectionGraph) (h : Hand) (none : denied_in_hand g.label g.value
       pub legal : IsLegal g (entries_of_hand h back)
       pub graph : graph_after g (entries_of_hand h back) ≡ handed_on g h
 
-    -- if what comes behind the grant does
+    -- if what comes after the grant does
     hands : (back : Option RightSet) → IsLegal g_gave (giving_back h back) → graph_after g_gave (giving_back h back) ≡ handed_on g h → Hands back
     hands back legal graph = record {
       legal = (
@@ -310,7 +310,7 @@ module _ (c : Content) (g : ProtectionGraph) (stands : IsContentOf c g) (h : Han
       let grants : denial_of g.label g.value h.via take ≡ None → on_heap ≡ on_graph = λ none. denial_of-stands c_took (took g h) (stands_took none) h.via grant subject in
       both take grant (denial_of c.label c.value h.via take) (denial_of g.label g.value h.via take) on_heap on_graph first grants
 
-  -- the heap with one edge more stands for the graph after the hand
+  -- the heap with one edge more represents the graph after the hand
   pub stands_handed : (new : Content) → denied_in_hand g.label g.value h ≡ None → IsContentHanded h c new → IsContentOf new (handed_on g h)
   stands_handed new none is =
       let command = Remove (lent g.label h) h.target in

@@ -116,7 +116,7 @@ apart_outside : (n m b : ℕ) → b ≡ n → (b < n) ⊎ (n + suc m ≤ b) → 
 apart_outside n m b e (inl low) = omega arith
 apart_outside n m b e (inr high) = omega arith
 
--- an edge first, then the names behind it
+-- an edge first, then the names after it
 given_up_more : (x n m : ℕ) (label after : ℕ → ℕ → RightSet) → GivenUp x (n + 1) m (lost label x n) after → GivenUp x n (suc m) label after
 given_up_more x n m label after given = record {
   others = λ a b apart. given.others a b apart ∙ lost_others label x n a b apart;
@@ -147,7 +147,7 @@ given_up_nothing x n label = record {
   inside = λ b low high. absurd (omega (arith, low, high));
 }
 
--- what x gives up on the graph without an edge of its, it gives up behind that edge
+-- what x gives up on the graph without an edge of its, it gives up after that edge
 gives_up_more : (m n : ℕ) (g : ProtectionGraph) (x : ℕ) → IsSubject g x → x ≢ n
     → GivesUp x (n + 1) m (with_labels g (lost g.label x n)) (map (removal x) (row_from (lost g.label x n x) (n + 1) m))
     → GivesUp x n (suc m) g (removal x (n, g.label x n) ∷ map (removal x) (row_from (g.label x) (n + 1) m))

@@ -60,12 +60,12 @@ module _ (g : ProtectionGraph) (x : ℕ) (label : RightSet) (value : Value) wher
   pub has_room : (kind : Making) → IsLimitMet g kind None → HasRoom kind g
   has_room kind room = record { made = room.0; subjects = λ many. omega (arith, room.1 many.0, many.1) }
 
-  -- and a content with it stands for the graph with it
+  -- and a content with it represents the graph with it
   pub stands_made : (c new : Content) (kind : Making) → standing.IsContentOf c g → OnlyNamedHold c → IsSound g → IsSubject g x → IsLimitMet g kind None → IsCreated c new x g.made label value → standing.IsContentOf new (step g x (deed_making kind label value))
   stands_made c new Object stands only sound subject room created = content.StandsFor-created c new g stands x label value.law value.state only sound subject room.0 created
   stands_made c new Subject stands only sound subject room created = content.StandsFor-spawned c new g stands x label value.law value.state only sound subject room.0 (room.1 refl) created
 
--- ---- how a limit is told
+-- ---- how a limit is reported
 
 -- the limit of subjects is looked at where that of vertices isn't met
 pub limit_of_subjects : (g : ProtectionGraph) (kind : Making) (met : Option Limit) → g.made < g.limit → kind ≡ Subject → (met ≡ None → length g.subjects < MAX_WORKERS) → ((limit : Limit) → met ≡ Some limit → (limit ≡ Subjects) × (MAX_WORKERS ≤ length g.subjects)) → IsLimitMet g kind met
@@ -173,16 +173,16 @@ stored old new x name label value created = (
   created.values name ∙ cond-true (name == name) (Some value) (old.value name) (eq-eqb name name refl),
 )
 
--- what was asked for is entered behind what there was
+-- what was asked for is entered after what there was
 pub enters : (before ready after : List Entry) (worker : ℕ) (kind : Making) (label : RightSet) (value given : Value) (deed : Deed) (reply : Reply) → deed ≡ deed_making kind label given → given ≡ value → ready ≡ before
     → after ≡ ready ++ (record { worker = worker; deed = deed; reply = reply }) ∷ [] → after ≡ before ++ (record { worker = worker; deed = deed_making kind label value; reply = reply }) ∷ []
 enters before ready after worker kind label value given deed reply is same kept put =
     put ∙ (ap (λ (es : List Entry). es ++ (record { worker = worker; deed = deed; reply = reply }) ∷ []) kept
     ∙ ap (λ (d : Deed). before ++ (record { worker = worker; deed = d; reply = reply }) ∷ []) (is ∙ ap (λ (v : Value). deed_making kind label v) same))
 
--- ---- how refusals of the heap are told
+-- ---- how refusals of the heap are reported
 
--- that is told as no limit, and as no want of a worker
+-- that is reported as no limit, and as no want of a worker
 pub fault_told : (why : RoomFault) → (create_fault_of why ≢ fault.NoSuchWorker) × (create_fault_of why ≢ fault.VerticesFull) × (create_fault_of why ≢ fault.WorkersFull) × (create_fault_of why ≡ fault.HeapFull → why ≡ no_room.HeapFull)
 fault_told no_room.OutOfMemory = ((λ e. let f : ⊥ = cc e in f), (λ e. let f : ⊥ = cc e in f), (λ e. let f : ⊥ = cc e in f), (λ e. let f : ⊥ = cc e in absurd f))
 fault_told no_room.HeapFull = ((λ e. let f : ⊥ = cc e in f), (λ e. let f : ⊥ = cc e in f), (λ e. let f : ⊥ = cc e in f), (λ e. refl))

@@ -1,4 +1,4 @@
--- What a walk over a store's heap finds is a picture of what is reached on the graph that the store stands for.
+-- What a walk over a store's heap finds is a picture of what is reached on the graph that the store represents.
 use Rattle.std.proofs.Common.{◌≡◌, ◌↔◌, ⊎_elim, ℕ, ◌<◌, get_or, sym, ap, ◌∙◌, subst}
 use Rattle.std.proofs.lemmas.Bool.{false≢true}
 use Rattle.std.proofs.lemmas.List.Elements.{Contains-get_or}

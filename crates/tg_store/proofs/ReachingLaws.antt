@@ -90,7 +90,7 @@ few_found h found is =
 
 -- ---- one row more
 
--- names that were found stay so where vertices come behind
+-- names that were found stay so where vertices come after
 pub found_behind : (old new : FoundVertices) (more : List (ℕ × Place)) → new.vertices.items ≡ old.vertices.items ++ more → names_found new.vertices.items ≡ names_found old.vertices.items ++ names_found more
 found_behind old new more behind = ap names_found behind ∙ map-append (λ (v : ℕ × Place). v.0) old.vertices.items more
 
@@ -116,7 +116,7 @@ edge_from from a = record { from = from; to = a.0; label = a.1 }
 abbrev pub row_edges : ℕ → List (ℕ × RightSet) → List Edge
 row_edges from row = map (edge_from from) row
 
--- The first edges of a row were put behind a list, and the vertices to which they lead were found.
+-- The first edges of a row were put after a list, and the vertices to which they lead were found.
 pub record FollowsRow (label : ℕ → ℕ → RightSet) (from : ℕ) (row : List (ℕ × RightSet)) (old new : FoundVertices) (before after : List Edge) (n : ℕ) : Type 0 where
   pub more : List (ℕ × Place)
   pub behind : new.vertices.items ≡ old.vertices.items ++ more

@@ -143,7 +143,7 @@ values_shown c names = shown_among (λ _. true) (vertices_of (λ _. []) c.value 
 abbrev pub edges_shown : Content → ℕ → List ℕ → List Edge
 edges_shown c made names = edges_among (λ _. true) (vertices_of (listing_of c.label made) (λ _. None) names)
 
--- what stands at a place past the end of a list
+-- what is at a place past the end of a list
 abbrev pub nobody : ℕ × Place
 nobody = (0, record { space = 0; block = 0; cell = 0 })
 

@@ -50,11 +50,11 @@ IsOrigin-first plan is = record { plan = is; snapshot = tt; limit = tt }
 -- ---- what was entered
 
 module _ (old new : StoreState) (es : List Entry) (opening : new.opening ≡ old.opening) (entries : new.entries ≡ old.entries ++ es) where
-  -- the store then stands for the graph after these entries
+  -- the store then represents the graph after these entries
   pub graph-grown : graph_of_store new ≡ graph_after (graph_of_store old) es
   graph-grown = (λ i. graph_after (start_at (opening i)) (entries i)) ∙ graph_after-append (start_at old.opening) old.entries es
 
-  -- and is faithful, where they are legal and the heap stands for that graph
+  -- and is faithful, where they are legal and the heap represents that graph
   pub IsStore-grown : (made : ℕ) → IsFaithful old → IsLegal (graph_of_store old) es → standing.IsContentOf (content_of new.heap) (graph_after (graph_of_store old) es) → subject_names new.heap ≡ (graph_after (graph_of_store old) es).subjects → made ≡ (graph_after (graph_of_store old) es).made → IsStore new made
   IsStore-grown made faithful legal stands names next = record {
     faithful = record {
@@ -68,7 +68,7 @@ module _ (old new : StoreState) (es : List Entry) (opening : new.opening ≡ old
 
 -- ---- no entry
 
--- where opening and journal are the same, and the heap still stands for the graph
+-- where opening and journal are the same, and the heap still represents the graph
 pub IsStore-kept : (old new : StoreState) (made : ℕ) → IsStore old made → new.opening ≡ old.opening → new.entries ≡ old.entries → standing.IsContentOf (content_of new.heap) (graph_of_store old) → subject_names new.heap ≡ subject_names old.heap → IsStore new made
 IsStore-kept old new made is opening entries stands names =
     IsStore-grown old new [] opening (entries ∙ sym (append-nil old.entries)) made is.faithful tt stands (names ∙ is.faithful.subjects) is.is_made

@@ -19,7 +19,7 @@ pub record IsCleared (snapshot : Saved) (store : StoreState) : Type 0 where
   pub names : (x : ℕ) → IsNamed (content_of store.heap) x ↔ IsReachable (graph_shown snapshot) x
   pub only_old : (space : ℕ) → space ≢ 0 → space_of store.heap.table.spaces space ≡ []
 
--- The store was opened again from the snapshot. It stands for the graph that the snapshot shows, so for one alike to each graph of which
+-- The store was opened again from the snapshot. It represents the graph that the snapshot shows, so for one alike to each graph of which
 -- it is a snapshot. Its next entry gets the snapshot's place, and it holds none before.
 pub record Reopens (plan : Plan) (snapshot : Saved) (given : BlockLimits) (store : StoreState) : Type 0 where
   pub start : StandsFor store (graph_shown snapshot)

@@ -21,7 +21,7 @@ pub record AreOfCommands (worker : ℕ) (commands : List Command) (entries : Lis
   pub deeds : map (λ e. e.deed) entries ≡ map Plain commands
 
 -- The commands of a worker were taken: the store has exactly one entry more for each, in their order. Each entry is legal on the graph
--- after those before it, so its reply is that of the rules there. The store stands for the graph after all of them.
+-- after those before it, so its reply is that of the rules there. The store represents the graph after all of them.
 pub record Applies (worker : ℕ) (commands : List Command) (old new : StoreState) : Type 0 where
   pub made : List Entry
   pub theirs : AreOfCommands worker commands made

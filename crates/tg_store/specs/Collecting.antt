@@ -15,7 +15,8 @@ use Rattle.tg_store.specs.Store.{StoreState, IsCountOf, StandsFor}
 pub record IsSwept (kind : Kind) (old new : StoreState) (count : ℕ) : Type 0 where
   -- so many vertices the heap has
   pub number : count ≡ length (content_of new.heap).names
-  -- after a full collection they are those that can be reached on the graph that the store stood for, and that is their number
+  -- after a full collection they are those that can be reached on the graph that the store represented, and that is their
+  -- number
   pub names : (g : ProtectionGraph) → StandsFor old g → kind ≡ Full → (x : ℕ) → IsNamed (content_of new.heap) x ↔ IsReachable g x
   pub reachable : (g : ProtectionGraph) → StandsFor old g → kind ≡ Full → IsCountOf (IsReachable g) count
   -- after a full collection no space but Old has a block, and after either no nursery

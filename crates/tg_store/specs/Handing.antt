@@ -73,9 +73,9 @@ lent label h = minus h.rights (label h.via h.target)
 abbrev pub handed_on : ProtectionGraph → Hand → ProtectionGraph
 handed_on g h = record g { label = with_rights g.label h.to h.target h.rights }
 
--- ---- what comes of a hand
+-- ---- the outcome of a hand
 
--- The rights were handed on: exactly these entries were added, and the store stands for the graph after the hand. What was removed of
+-- The rights were handed on: exactly these entries were added, and the store represents the graph after the hand. What was removed of
 -- `via` again is what it didn't hold before.
 pub record IsHandedOn (h : Hand) (old new : StoreState) (back : Option RightSet) : Type 0 where
   pub allowed : MayHand (graph_of_store old) h
@@ -96,7 +96,7 @@ pub record IsHandDenied (h : Hand) (old new : StoreState) (command : Command) (d
   pub entry : OnlyEnters old new h.via (Plain command) (reply.Denied denial)
   pub graph : graph_of_store new ≡ graph_of_store old
 
--- what comes of a hand
+-- the outcome of a hand
 abbrev pub ComesOfHand : Hand → StoreState → StoreState → Handed → Type 0
 ComesOfHand h old new (Done back) = IsHandedOn h old new back
 ComesOfHand h old new (Denied command denial) = IsHandDenied h old new command denial

@@ -1,22 +1,23 @@
--- Who holds a right.
-use Rattle.std.specs.Prelude.{◌≡◌, ◌↔◌, ℕ, true, List}
-use Rattle.std.specs.List.{Contains}
+-- Who holds a right over a vertex, and who has an edge to it.
+use Rattle.std.specs.Prelude.{◌≡◌, ◌↔◌, ◌<◌, ◌&&◌, ℕ, List}
+use Rattle.std.specs.List.{AllPairs, Contains}
 use Rattle.std.specs.List.Sorted.{IsStrictlyIncreasing}
-use Rattle.tg_rights.specs.RightSet.{has}
+use Rattle.tg_rights.specs.RightSet.{RightSet, has, set_where}
 use Rattle.tg_rights.specs.declared.Right.{Right}
-use Rattle.tg_model.specs.declared.edge.Edge.{Edge}
-use Rattle.tg_model.specs.Graph.{ProtectionGraph, IsReachable}
+use Rattle.tg_model.specs.Graph.{ProtectionGraph, HasEdge, IsReachable}
 use Rattle.tg_model.specs.Picture.{Holds}
+
+-- the rights that are in both sets
+abbrev pub common : RightSet → RightSet → RightSet
+common a b = set_where (λ x. has a x && has b x)
 
 -- They are, by rising name, exactly those who hold the right over y, of all that the active subjects reach.
 pub record AreHolders (g : ProtectionGraph) (right : Right) (y : ℕ) (names : List ℕ) : Type 0 where
   pub rising : IsStrictlyIncreasing names
   pub each : (x : ℕ) → Contains names x ↔ (IsReachable g x × Holds g.label x right y)
 
--- an edge of the list from x leads to y, with the right
-pub record IsHolderIn (edges : List Edge) (right : Right) (y x : ℕ) : Type 0 where
-  pub edge : Edge
-  pub there : Contains edges edge
-  pub from : edge.from ≡ x
-  pub to : edge.to ≡ y
-  pub held : has edge.label right ≡ true
+-- They are exactly the edges to y of all that the active subjects reach. Each has the name of the vertex from which it leads and its whole
+-- label. These names rise, so each edge comes once.
+pub record AreEdgesTo (g : ProtectionGraph) (y : ℕ) (edges : List (ℕ × RightSet)) : Type 0 where
+  pub rising : AllPairs (λ d e. d.0 < e.0) edges
+  pub each : (x : ℕ) (label : RightSet) → Contains edges (x, label) ↔ (IsReachable g x × HasEdge g.label x y × (label ≡ g.label x y))

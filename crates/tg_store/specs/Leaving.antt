@@ -30,7 +30,7 @@ graph_after_leave g x row = step (graph_after g (map (removal x) row)) x (Plain 
 abbrev pub left_by : ProtectionGraph → ℕ → ProtectionGraph
 left_by g x = record g { subjects = without_subject g.subjects x; label = λ a b. if a == x then no_rights else g.label a b }
 
--- The worker has left the store: exactly these entries were added, and the store stands for the graph that it has left.
+-- The worker has left the store: exactly these entries were added, and the store represents the graph that it has left.
 pub record HasLeft (worker : ℕ) (old new : StoreState) : Type 0 where
   pub entries : new.entries ≡ old.entries ++ leaving (graph_of_store old) worker
   pub graph : graph_of_store new ≡ left_by (graph_of_store old) worker

@@ -1,4 +1,5 @@
--- What comes of asking a store for a vertex, be it an object or a subject, and by whichever of the calls that make one.
+-- The outcome of asking a store for a vertex, be it an object or a subject, and by whichever of the calls that make
+-- one.
 use Rattle.std.specs.Prelude.{◌≡◌, ◌↔◌, ◌⊎◌, ◌≤◌, ℕ, Result, Some, IfErr, IsErrAnd, OnErr}
 use Rattle.tg_rights.specs.RightSet.{RightSet}
 use Rattle.tg_model.specs.declared.command.Deed.{Deed}
@@ -16,17 +17,17 @@ use Rattle.tg_store.specs.Store.{StoreState, StandsFor}
 
 -- A vertex with a name was made for a worker by a deed: it stores the value, and the worker has the rights of the label over it.
 pub record IsMadeFor (deed : Deed) (worker : ℕ) (label : RightSet) (value : Value) (old new : StoreState) (vertex : ℕ) : Type 0 where
-  -- the graph that the store stood for answers that name, and the store stands for the next one
+  -- the graph that the store represented answers that name, and the store represents the next one
   pub name : (g : ProtectionGraph) → StandsFor old g → answer_of g worker deed ≡ Name vertex
   pub step : (g : ProtectionGraph) → StandsFor old g → StandsFor new (step g worker deed)
   pub stored : IsNamed (content_of new.heap) vertex × ((content_of new.heap).value vertex ≡ Some value)
   pub placed : IsMadeInRow old.heap.table new.heap.table old.heap.remembered new.heap.remembered (nursery_space (nursery_of old.heap worker)) worker vertex label
 
--- refused because too many subjects are active, or for want of memory
+-- refused because too many subjects are active, or for lack of memory
 abbrev pub IsCrowdedOut : {P T : Type 0} → Result T (CreateRefused P) → Type 0
 IsCrowdedOut result = IsErrAnd result (λ refused. (refused.why ≡ WorkersFull) ⊎ (refused.why ≡ OutOfMemory))
 
--- When a worker's deed makes no vertex, by the graph that the store stands for, and what stays then; opening, limits and counts stay always.
+-- When a worker's deed makes no vertex, by the graph that the store represents, and what stays then; opening, limits and counts stay always.
 pub record MayRefuse {P T : Type 0} (deed : Deed) (worker : ℕ) (value : Value) (old new : StoreState) (result : Result T (CreateRefused P)) : Type 0 where
   pub no_such_worker : (g : ProtectionGraph) → StandsFor old g → IsErrAnd result (λ refused. refused.why ≡ NoSuchWorker) ↔ (¬ IsSubject g worker)
   pub no_more : (g : ProtectionGraph) → StandsFor old g → IfErr result (λ refused. refused.why ≡ VerticesFull → IsSubject g worker × (g.limit ≤ g.made))

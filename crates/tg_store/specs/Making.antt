@@ -24,12 +24,12 @@ abbrev pub reply_at : Limit → Reply
 reply_at Vertices = VerticesFull
 reply_at Subjects = WorkersFull
 
--- what the one who asks is told of it
+-- what the worker that asks gets of it
 abbrev pub fault_at : Limit → CreateFault
 fault_at Vertices = fault.VerticesFull
 fault_at Subjects = fault.WorkersFull
 
--- The first limit on a graph that stands in the way of one more vertex of a kind: that of vertices, and then for a subject that of
+-- The first limit on a graph that is in the way of one more vertex of a kind: that of vertices, and then for a subject that of
 -- subjects; or none does.
 abbrev pub IsLimitMet : ProtectionGraph → Making → Option Limit → Type 0
 IsLimitMet g kind None = (g.made < g.limit) × (kind ≡ Subject → length g.subjects < MAX_WORKERS)

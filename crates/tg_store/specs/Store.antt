@@ -32,11 +32,11 @@ pub record StoreState : Type 0 where
 abbrev pub graph_of_store : StoreState → ProtectionGraph
 graph_of_store s = graph_after (start_at s.opening) s.entries
 
--- The store stands for that graph, and for no other. It is the word by which all calls of a store are told.
+-- The store represents that graph, and for no other. It is the word in which all calls of a store are described.
 abbrev pub StandsFor : StoreState → ProtectionGraph → Type 0
 StandsFor s g = graph_of_store s ≡ g
 
--- What holds of every store: its journal is a legal history from where it began, and its heap stands for the graph after it, whose
+-- What holds of every store: its journal is a legal history from where it began, and its heap represents the graph after it, whose
 -- subjects are the heap's active ones.
 pub record IsFaithful (s : StoreState) : Type 0 where
   pub origin : IsOrigin s.opening
@@ -83,7 +83,7 @@ pub record HoldsFrom (first : ℕ) (old new : StoreState) : Type 0 where
 abbrev pub HandsOut : StoreState → StoreState → Type 0
 HandsOut old new = HoldsFrom (length old.entries) old new
 
--- What a collection made stands in the place of what it moved: of a full one it is all that there is; a nursery collection has
+-- What a collection made is in the place of what it moved: of a full one it is all that there is; a nursery collection has
 -- written the remembered cells besides.
 pub record HasAdopted (kind : Kind) (old new : HeapState) (made : Collected) : Type 0 where
   pub full : kind ≡ Full → new.table ≡ with_adopted old.table Full made.aged made.old

@@ -19,7 +19,7 @@ use tg_rules::{Parties, change_between, find_parties, look_between, only_looks};
 use tg_subjects::Subject;
 
 // Decides a command of a worker, performs it where it is served, and enters it with its reply, for which the journal
-// has room. For each graph that the heap stands for the reply is that graph's, and then the heap stands for the graph
+// has room. For each graph that the heap represents the reply is that graph's, and then the heap represents the graph
 // after the command. Where it is refused, the heap and the journal are as they were. It is a call of its own: put into
 // its callers it makes them so large that what it calls isn't put into it.
 #[inline(never)]

@@ -1,4 +1,4 @@
-//! Batches: several commands of a worker in one call.
+//! Batches. A batch is several commands of a worker in one call.
 ghost use Rattle.std.specs.Prelude.{◌≡◌, ◌↔◌, ◌<◌, [], Err, IfErr, IfOk, length};
 ghost use Rattle.tg_store.specs.Batch.{Applies, StopsBatch};
 
@@ -53,7 +53,7 @@ impl<P: Payload> Store<P> {
                 let done = done as u64;
                 return Err(BatchFault::Stopped { done, why });
             }
-            // It tells that the entries so far are legal.
+            // This call shows that the entries so far are legal.
             let _ = self.journal();
         }
         Ok(commands.len() as u64)

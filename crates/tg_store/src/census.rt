@@ -1,4 +1,4 @@
-//! Counts of what a store has, and of what its entries tell.
+//! Counts of what a store has, and of its entries.
 ghost use Rattle.std.specs.Prelude.{◌≡◌, ◌+◌, ◌-◌, ◌^◌, ◌<◌};
 ghost use Rattle.tg_store.specs.Counts.{refusals_of, with_one_collection, with_one_refusal};
 

@@ -73,8 +73,8 @@ impl Hand {
     }
 }
 
-// Hands rights on: decides both commands on the heap as it is, adds the one edge that stays, and enters the commands,
-// for which the journal has room. Where it is refused, the heap and the journal are as they were.
+// Hands rights on. It decides both commands on the heap as it is, and adds the one edge that stays. Then it enters the
+// commands, for which the journal has room. Where it is refused, the heap and the journal are as they were.
 pub(crate) fn hand_on<P: Payload>(
     heap: &mut Heap<P>,
     journal: &mut TalliedJournal,

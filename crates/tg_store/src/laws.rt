@@ -1,4 +1,4 @@
-//! What holds of the words by which stores are told. A function here does nothing: what it ensures is the law.
+//! Laws of the definitions in which contracts speak of stores. A function here does nothing. Its `ensures` is the law.
 ghost use Rattle.std.specs.Prelude.{◌≡◌, ◌↔◌, None};
 ghost use Rattle.tg_model.specs.Graph.{ProtectionGraph};
 ghost use Rattle.tg_store.specs.declared.handing.Hand.{Hand};

@@ -1,4 +1,4 @@
-//! The store: a protection graph in a heap that takes commands, and objects with payloads of the caller's own.
+//! The store. It has a protection graph in a heap that takes commands, and objects with payloads of the caller's own.
 //!
 //! A store is opened with an [`Opening`](tg_model::Opening), which says who its workers are. The caller also hands in a
 //! draft of the payload of each worker, and how many blocks the heap may have. Or it is opened again from a snapshot
@@ -24,8 +24,8 @@
 //! is a legal history of the opening, and the heap represents the graph after it. [`Store::collect`] changes the heap
 //! alone. Afterwards the heap has exactly what can be reached, and the payloads of all other vertices were dropped.
 //!
-//! A refused call leaves the store as it was, and hands back its arguments. Two refusals have an entry: a create or a
-//! spawn for which there are too many vertices, and a spawn for which there are too many subjects. A call makes room
+//! A refused call leaves the store as it was, and hands back its arguments. Two refusals have an entry. A create or a
+//! spawn is refused so if there are too many vertices, and a spawn if there are too many subjects. A call makes room
 //! for the entry first, and copies the reply. Then it takes what a command needs of the heap ('Why the entry comes
 //! last' in docs/inside/ARCHITECTURE.md).
 //!

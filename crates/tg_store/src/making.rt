@@ -1,4 +1,4 @@
-//! Makes a vertex in a store, or tells which limit stands in the way.
+//! Makes a vertex in a store, or shows which limit is in the way.
 ghost use Rattle.std.specs.Prelude.{◌≡◌, ◌<◌, IfErr, IfOk, OnErr, OnOk, Some, length};
 ghost use Rattle.std.specs.List.{All};
 ghost use Rattle.tg_word.specs.Word.{nursery_space};

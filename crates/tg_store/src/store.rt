@@ -16,6 +16,7 @@ use crate::census::{Census, Collections};
 use crate::fault::{ApplyFault, CreateFault, CreateRefused, OpenFault, OpenRefused};
 use crate::making::{Limit, add_vertex, deed_to_enter};
 use crate::origin::StoreOrigin;
+use crate::store::holders::label_between;
 use crate::tallied::TalliedJournal;
 use std::alloc::{AllocError, Global};
 use std::marker::Model;
@@ -207,7 +208,7 @@ impl<P: Payload> Store<P> {
         ensures within { self.now.handed ≤ length self.now.entries }
         ensures faithful { IsFaithful self.now }
     {
-        // It tells that no more were handed out than were made.
+        // This call shows that no more were handed out than were made.
         let journal = self.journal.journal();
         let _ = journal.start();
         journal
@@ -430,7 +431,7 @@ impl<P: Payload> Store<P> {
         Ok(name)
     }
 
-    // The first limit that stands in the way of one more vertex of the kind.
+    // The first limit that is in the way of one more vertex of the kind.
     fn limit_met(&self, kind: Making) -> Option<Limit>
         ensures { IsLimitMet (graph_of_store self.now) kind result }
     {
@@ -477,8 +478,7 @@ impl<P: Payload> Store<P> {
         ensures held { (g : ProtectionGraph) → StandsFor self.now g → IsHeldOver g worker target result }
     {
         let subject = self.heap.subject(worker)?;
-        let found = self.heap.find_edge(subject.place, target)?;
-        Label::new(found.rights)
+        label_between(&self.heap, subject.place, target)
     }
 
     /// Writes the names of the heap's vertices to `into`, and returns how many vertices there are. The names are in the
@@ -555,10 +555,10 @@ impl<P: Payload> Store<P> {
     }
 
     /// Returns the cells from which a collection of this kind starts. A full collection starts from the rows of the
-    /// workers, by rising name. A nursery collection also starts from the remembered cells. If a row may name young
-    /// cells, a nursery collection has each young cell that the row's marked cells name as a row of its own. It reaches
-    /// the same cells as from the whole rows. This call, [`spaces`](Store::spaces) and [`settle`](Store::settle) are
-    /// for collectors outside of this crate. It fails only if memory runs out.
+    /// workers, by rising name. A nursery collection also starts from the remembered cells. Suppose that a row may name
+    /// young cells. Then a nursery collection has each young cell that the row's marked cells name as a row of its own.
+    /// It reaches the same cells as from the whole rows. This call, [`spaces`](Store::spaces) and
+    /// [`settle`](Store::settle) are for collectors outside of this crate. It fails only if memory runs out.
     pub fn roots(&self, kind: Kind) -> Result<Vec<Root>, AllocError>
         ensures roots { IfOk result (λ roots. CollectAlike kind self.now.heap.table.spaces (roots_of kind self.now.heap) roots.items) }
         ensures targets { IfOk result (λ roots. all_root_targets (from_space kind) self.now.heap.table.spaces roots.items ≡ all_root_targets (from_space kind) self.now.heap.table.spaces (roots_of kind self.now.heap)) }
@@ -592,14 +592,15 @@ impl<P: Payload> Store<P> {
         ensures history { KeepsHistory self.old self.new result }
     {
         let count = self.heap.settle(kind, copied)?;
-        // It tells that no name stands twice.
+        // This call shows that no name is there twice.
         let _ = self.heap.vertices();
         self.collections.add(kind);
         Ok(count)
     }
 }
 
-// The first place where a draft's law or state isn't that of the value; or else the smaller of the two numbers.
+// The first place where a draft's law or state isn't that of the value. If there is none, it is the smaller of the two
+// numbers.
 fn first_difference<P: Payload>(values: &[Value], drafts: &[Draft<P>]) -> Option<u64>
     ensures { MatchOption result (drafts.now ≡ values.now) (IsFirstDifference values.now drafts.now) }
 {

@@ -106,7 +106,7 @@ impl TalliedJournal {
         ensures { Adds entry self.old self.new }
     {
         self.journal.push(entry);
-        // It tells that the entries have a number, and so their refusals have.
+        // This call shows that the entries have a number, and so their refusals have.
         let _ = self.journal.len();
         self.refusals.add(refusal);
     }

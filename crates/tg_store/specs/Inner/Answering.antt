@@ -1,4 +1,4 @@
--- What comes of a command on the heap, and what is entered of it.
+-- The outcome of a command on the heap, and what is entered of it.
 use Rattle.std.specs.Prelude.{◌≡◌, ◌≢◌, ◌<◌, ◌++◌, ◌∷◌, [], ℕ, Result, None, Err, IfOk, OnErr}
 use Rattle.tg_model.specs.declared.command.Command.{Command}
 use Rattle.tg_model.specs.declared.command.Deed.TheVariants.{Plain}
@@ -24,8 +24,8 @@ pub record IsToServe (asker : Subject) (command : Command) (between : Parties) (
   pub served : denial_of (content_of heap).label (content_of heap).value asker.name command ≡ None
   pub room : 0 < journal.spare
 
--- A command of x was served or denied. For each graph that the heap stood for the reply is that graph's, and the heap stands for the
--- next one.
+-- A command of x was served or denied. For each graph that the heap represented the reply is that graph's, and the heap represents
+-- the next one.
 pub record IsReplied (x : ℕ) (command : Command) (old new : HeapState) (reply : Reply) : Type 0 where
   pub answered : (g : ProtectionGraph) → IsContentOf (content_of old) g → IsSubject g x → reply ≡ answer_of g x (Plain command)
   pub subjects : (g : ProtectionGraph) → IsContentOf (content_of old) g → IsSubject g x → subject_names old ≡ g.subjects →

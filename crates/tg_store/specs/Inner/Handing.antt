@@ -1,4 +1,4 @@
--- What comes of a hand on the heap, and what is entered of it.
+-- The outcome of a hand on the heap, and what is entered of it.
 use Rattle.std.specs.Prelude.{◌≡◌, [], ◌∷◌, ◌++◌, Option, Some, None}
 use Rattle.tg_rights.specs.RightSet.{RightSet, label_of}
 use Rattle.tg_model.specs.declared.command.Command.{Command}

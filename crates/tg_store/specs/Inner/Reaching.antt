@@ -1,7 +1,7 @@
 -- What a walk over a heap from its active subjects has found on its way.
-use Rattle.std.specs.Prelude.{◌≡◌, ◌↔◌, ◌==◌, ◌++◌, ◌<◌, ℕ, List, map}
-use Rattle.std.specs.List.{All, AllPairs, Contains, IsDistinct}
-use Rattle.tg_rights.specs.RightSet.{RightSet}
+use Rattle.std.specs.Prelude.{◌≡◌, ◌↔◌, ◌==◌, ◌++◌, ◌<◌, ℕ, List, map, not}
+use Rattle.std.specs.List.{All, AllPairs, Contains, IsDistinct, filter}
+use Rattle.tg_rights.specs.RightSet.{RightSet, is_none_held}
 use Rattle.tg_model.specs.declared.edge.Edge.{Edge}
 use Rattle.tg_model.specs.Graph.{HasEdge}
 use Rattle.tg_word.specs.declared.Place.{Place}
@@ -10,6 +10,7 @@ use Rattle.tg_rows.specs.Content.{Content, IsNamed}
 use Rattle.tg_rows.specs.Rows.{IsVertexAt}
 use Rattle.tg_graph.specs.Heap.{HeapState, content_of, subject_names}
 use Rattle.tg_graph.specs.Standing.{IsReached}
+use Rattle.tg_store.specs.Holding.{common}
 use Rattle.tg_store.specs.declared.store.picture.FoundVertices.{FoundVertices}
 
 -- the names of a content are below `made`, and so are those to which its edges lead
@@ -28,7 +29,7 @@ pub record IsFoundIn (h : SpaceList) (found : FoundVertices) : Type 0 where
   pub once : IsDistinct (λ a b. a == b) (names_found found.vertices.items)
   pub placed : All (λ v. IsVertexAt h v.0 v.1) found.vertices.items
 
--- vertices came behind those that were found: none but these, and all of these are found then
+-- vertices came after those that were found: none but these, and all of these are found then
 pub record FindsMore (old new : FoundVertices) (these : ℕ → Type 0) : Type 0 where
   pub more : List (ℕ × Place)
   pub behind : new.vertices.items ≡ old.vertices.items ++ more
@@ -56,3 +57,11 @@ pub record AreReachedIn (heap : HeapState) (vertices : List (ℕ × Place)) : Ty
   pub placed : All (λ v. IsVertexAt heap.table.spaces v.0 v.1) vertices
   pub rise : AllPairs (λ v w. v.0 < w.0) vertices
   pub names : (x : ℕ) → Contains (names_found vertices) x ↔ IsReached (content_of heap) (subject_names heap) x
+
+-- the edges to y of these vertices, in their order, each with the name of its vertex
+abbrev pub edges_over : (ℕ → ℕ → RightSet) → ℕ → List (ℕ × Place) → List (ℕ × RightSet)
+edges_over label y vertices = filter (λ e. not (is_none_held e.1)) (map (λ v. (v.0, label v.0 y)) vertices)
+
+-- the names in the edges that have some of these rights, in their order
+abbrev pub names_sharing : RightSet → List (ℕ × RightSet) → List ℕ
+names_sharing rights edges = map (λ e. e.0) (filter (λ e. not (is_none_held (common rights e.1))) edges)

@@ -74,7 +74,7 @@ impl<P: Payload> Store<P> {
         requires subjects { subject_names heap ≡ snapshot.now.picture.subjects }
         ensures { Reopens opening snapshot.now heap.table.limits result }
     {
-        // It tells that the opening is one.
+        // This call shows that the opening is one.
         let _ = opening.workers();
         let made = snapshot.picture().made();
         let journal = TalliedJournal::after(alloc, snapshot);

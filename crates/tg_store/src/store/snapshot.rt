@@ -21,10 +21,11 @@ use tg_snapshot::{ShownVertex, Snapshot};
 use tg_word::Place;
 
 impl<P: Payload> Store<P> {
-    /// The snapshot of the graph that the store stands for, at the place of its next entry: the active subjects, each
-    /// vertex that they reach with what it stores, each edge of these, how many vertices were made, and the most that
-    /// may be. It is the same whatever was collected, and when. [`Store::reopen`] goes on from it, in this process or
-    /// in another one. A store in which no subject is active has a snapshot too, from which no store is opened.
+    /// The snapshot of the graph that the store represents, at the place of its next entry. It has the active subjects,
+    /// each vertex that they reach with what it stores, and each edge of these vertices. It also has how many vertices
+    /// were made, and the most that may be made. It is the same whatever was collected, and when. [`Store::reopen`]
+    /// goes on from it, in this process or in another one. A store in which no subject is active has a snapshot too,
+    /// from which no store is opened.
     ///
     /// It reads each row that is reached twice. Takes memory in proportion to what is reached. Makes no entry. Fails
     /// only when out of memory.

@@ -1,4 +1,4 @@
--- The graph answers that it is done, and the heap stands for the next one.
+-- The graph answers that it is done, and the heap represents the next one.
 use Rattle.std.proofs.Common.{ap}
 use Rattle.tg_journal.specs.declared.entry.Entry.{Entry}
 use Rattle.tg_store.specs.Counts.{refusal_told}

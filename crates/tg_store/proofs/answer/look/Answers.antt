@@ -1,4 +1,4 @@
--- The reply is the graph's, and the heap stays, which stands for the next one.
+-- The reply is the graph's, and the heap stays, which represents the next one.
 use Rattle.std.proofs.Common.{ap, refl, ◌∙◌}
 use Rattle.tg_graph.specs.Heap.{content_of}
 use Rattle.tg_journal.specs.declared.entry.Entry.{Entry}

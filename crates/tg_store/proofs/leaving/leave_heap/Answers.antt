@@ -20,7 +20,7 @@ use Rattle.tg_store.specs.Leaving.{removal}
 use Rattle.tg_store.proofs.LeaveLaws.{served, still_subject}
 use Rattle.tg_store.proofs.leaving.leave_heap.Goals as goal
 
--- an entry behind those that were entered
+-- an entry after those that were entered
 one_more : (old now done : List Entry) (e : Entry) → now ≡ old ++ done → now ++ e ∷ [] ≡ old ++ (done ++ e ∷ [])
 one_more old now done e is = ap (λ es. es ++ e ∷ []) is ∙ append_assoc old done (e ∷ [])
 

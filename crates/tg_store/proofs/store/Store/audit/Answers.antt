@@ -7,7 +7,7 @@ use Rattle.tg_store.proofs.Apart.{not_both}
 use Rattle.tg_store.proofs.AuditLaws.{fault_of_legal}
 use Rattle.tg_store.proofs.store.Store.audit.Goals as goal
 
--- the journal holds all its entries, and these are a legal history: so it is memory that was wanting
+-- the journal holds all its entries, and these are a legal history: so it is memory that was lacking
 pub returns-in_err-audit-clause-fault : goal.returns-in_err-audit-clause-fault
 returns-in_err-audit-clause-fault g c =
     let store = c.args.self.now in

@@ -15,20 +15,11 @@ returns-in_err-subject g c =
           c.from_residual.ensures graph (stands_inside c.self.invariant c.self.view_is stands);
     }
 
-pub returns-in_err-found : goal.returns-in_err-found
-returns-in_err-found g c =
-    record {
-      held = λ graph stands.
-          held_by_subject _ c.self.invariant.faithful c.args.worker c.args.target c.from_residual-in_err-found.result (c.in_ok-subject.ensures.active.0 refl)
-          (c.from_residual-in_err-found.ensures ∙ ap label_of (c.in_err-found.ensures.rights ∙ ap (λ (x : ℕ). (content_of c.self.inside.heap).label x c.args.target) c.in_ok-subject.ensures.vertex.named))
-          graph (stands_inside c.self.invariant c.self.view_is stands);
-    }
-
 pub returns : goal.returns
 returns g c =
     record {
       held = λ graph stands.
-          held_by_subject _ c.self.invariant.faithful c.args.worker c.args.target c.new.result (c.in_ok-subject.ensures.active.0 refl)
-          (c.new.ensures ∙ ap label_of (c.in_ok-found.ensures.rights ∙ ap (λ (x : ℕ). (content_of c.self.inside.heap).label x c.args.target) c.in_ok-subject.ensures.vertex.named))
+          held_by_subject _ c.self.invariant.faithful c.args.worker c.args.target c.label_between.result (c.in_ok-subject.ensures.active.0 refl)
+          (c.label_between.ensures ∙ ap label_of (ap (λ (x : ℕ). (content_of c.self.inside.heap).label x c.args.target) c.in_ok-subject.ensures.vertex.named))
           graph (stands_inside c.self.invariant c.self.view_is stands);
     }

@@ -25,7 +25,7 @@ left_entries old reserved new x w row listing made same named is =
     made ∙ ap (λ es. es ++ map (removal x) row ++ retiring x ∷ []) same ∙ append_assoc old (map (removal x) row) (retiring x ∷ [])
     ∙ (λ i. old ++ (map (removal (named i)) (is i) ++ retiring (named i) ∷ []))
 
--- the heap stands for the graph that the worker has left
+-- the heap represents the graph that the worker has left
 left_heap : (before after : Content) (g : ProtectionGraph) (x w : ℕ) (row : List (ℕ × RightSet)) → x ≡ w → row ≡ listing_of g.label g.made w → IsSound g → IsSubject g w → IsContentOf before g
     → ((h : ProtectionGraph) → IsContentOf before h → IsSubject h x → IsLegal h (map (removal x) row) → IsContentOf after (step (graph_after h (map (removal x) row)) x (Plain Retire)))
     → IsContentOf after (step (graph_after g (map (removal w) (listing_of g.label g.made w))) w (Plain Retire))

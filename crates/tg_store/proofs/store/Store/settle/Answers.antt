@@ -1,4 +1,4 @@
--- The heap then has what can be reached, and stands for the same graph.
+-- The heap then has what can be reached, and represents the same graph.
 use Rattle.std.proofs.Common.{◌∙◌, refl, ap, sym, subst}
 use Rattle.std.proofs.lemmas.Result.{err_from_is_err_and}
 use Rattle.tg_space.specs.Collection.{IsCollection, collected_in}

@@ -1,0 +1,36 @@
+use Rattle.std.proofs.Common.{◌≡◌, ◌∙◌, ◌++◌, ◌∷◌, ◌+◌, [], ℕ, List, ap, get_or, sym, take}
+use Rattle.std.proofs.lemmas.List.{take_all, take_more}
+use Rattle.tg_rights.specs.RightSet.{RightSet, label_of}
+use Rattle.tg_word.specs.declared.Place.{Place}
+use Rattle.tg_graph.specs.Heap.{content_of}
+use Rattle.tg_store.specs.Inner.Reaching.{edges_over}
+use Rattle.tg_store.proofs.HoldingLaws.{edges_over-push, edges_over-same}
+use Rattle.tg_store.proofs.SavedLaws.{nobody}
+use Rattle.tg_store.proofs.store.holders.edges_of_each.Goals.{in-Some+in_ok-push, in_default}
+use Rattle.tg_store.proofs.store.holders.edges_of_each.Goals as goal
+
+pub label_between-requires : goal.label_between-requires
+label_between-requires g c = let vertex = c.requires c.loop-vertex.vertex-index nobody c.loop-vertex-test.true in vertex.object
+
+pub loop-vertex-preserved : goal.loop-vertex-preserved
+loop-vertex-preserved g c =
+    let vs : List (ℕ × Place) = c.args.vertices.now in
+    let i = c.loop-vertex.vertex-index in
+    let v : ℕ × Place = get_or vs i nobody in
+    let y = c.args.name in
+    let label = (content_of c.args.heap.now).label in
+    let vertex = c.requires i nobody c.loop-vertex-test.true in
+    let more : take i vs ++ v ∷ [] ≡ take (i + 1) vs = sym (take_more vs i nobody c.loop-vertex-test.true) in
+    let told : c.label_between.result ≡ label_of (label v.0 y) = c.label_between.ensures ∙ ap (λ (x : ℕ). label_of (label x y)) vertex.named in
+    elim c.match-label_between.branch [
+      | in-Some+in_ok-push w ↦
+          ap (λ edges. edges.items) w.edges-is ∙ w.in_ok-push.ensures.items
+          ∙ ap (λ (es : List (ℕ × RightSet)). es ++ (v.0, w.in-Some.label) ∷ []) c.loop-vertex.invariant
+          ∙ sym (edges_over-push label y (take i vs) v w.in-Some.label (sym w.in-Some.is ∙ told)) ∙ ap (edges_over label y) more
+      | in_default w ↦
+          ap (λ edges. edges.items) w.edges-is ∙ c.loop-vertex.invariant
+          ∙ sym (edges_over-same label y (take i vs) v (sym w.in_default.is ∙ told)) ∙ ap (edges_over label y) more
+    ]
+
+pub returns : goal.returns
+returns g c = c.loop-vertex.invariant ∙ ap (edges_over (content_of c.args.heap.now).label c.args.name) (take_all _ _ c.loop-vertex-test.false)
