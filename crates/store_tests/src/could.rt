@@ -1,5 +1,5 @@
-//! Answers that no clause of `tg_could` asks for: `Perhaps` of a view and a host of `needs` say nothing, so a body that
-//! gives no other answer keeps every contract.
+//! Answers that no clause of `tg_could` asks for. `Perhaps` of a view, and a host in the answer of `needs`, promise
+//! nothing. So a body that gives no other answer keeps every contract.
 use std::alloc::{AllocError, Global};
 use tg_could::{Chance, Question, Scene, View, needs};
 use tg_model::{Edge, Picture};
@@ -20,7 +20,8 @@ const RIGHTS: &[Right] = &[
     Right::V,
 ];
 
-// Ten subjects and the document, over which subject 9 has all rights; and this edge, if it has rights.
+// Ten subjects and the document, over which subject 9 has all rights. The edge `from`, `to` is there too if it has
+// rights.
 fn picture(alloc: Global, from: u64, to: u64, rights: Rights) -> Result<Picture, AllocError> {
     let mut subjects = Vec::new(alloc);
     for name in 0..DOCUMENT {
@@ -51,7 +52,7 @@ fn of_document(x: u64, right: Right) -> Question {
     }
 }
 
-// Whether a view tells of each right over the document that subject 0 never holds it, and that subject 9 may.
+// Whether a view answers for each right over the document that subject 0 never holds it, and that subject 9 may.
 fn is_told_by_view(alloc: Global) -> Result<bool, AllocError> {
     let picture = picture(alloc, 0, 1, Rights::of(Right::T))?;
     let scene = Scene {
@@ -83,7 +84,7 @@ fn enough(alloc: Global) -> Result<Vec<u64>, AllocError> {
     needs(alloc, &scene, of_document(0, Right::R))
 }
 
-// Whether these are subject 9's alone.
+// Whether the only name is that of subject 9.
 fn is_one_enough(alloc: Global) -> bool {
     match enough(alloc) {
         Ok(names) => names.as_slice() == [9].as_slice(),

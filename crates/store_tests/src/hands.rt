@@ -55,9 +55,9 @@ fn hand(
     }
 }
 
-// What three hands come to: a read right to object 3, a write right that object 1 doesn't have, and a read right over
-// object 2 to object 2 itself. Then who may read object 2, whether worker 0 has a right over it, and how many entries
-// are legal.
+// The outcome of three hands. They hand on a read right to object 3, a write right that object 1 doesn't have, and a
+// read right over object 2 to object 2 itself. Then who may read object 2, whether worker 0 has a right over it, and
+// how many entries are legal.
 fn left_of_hands(
     alloc: Global,
 ) -> Option<([Option<Result<Option<Label>, Denial>>; 3], bool, bool, u64)> {
@@ -75,7 +75,22 @@ fn left_of_hands(
     Some((seen, both, none, legal))
 }
 
-// Three creates, a grant and a remove open the store. The first hand has three entries, and each other one has one.
+// The edges to object 2, and those to a name that was never made.
+fn edges_to_object(alloc: Global) -> Option<bool> {
+    let store = open(alloc)?;
+    let edges = store.edges_to(alloc, 2).ok()?;
+    let unmade = store.edges_to(alloc, 9).ok()?;
+    let only = edges.as_slice() == [(1, Label::read_text(b"r")?)].as_slice();
+    store.let_go();
+    Some(only && unmade.is_empty())
+}
+
+#[test]
+fn edges_to_a_vertex_are_listed(rt: HostRuntime) {
+    assert_eq!(rt; edges_to_object(rt.alloc()), Some(true));
+}
+
+// Three creates, a grant and a remove open the store. The first hand has three entries, and each other hand has one.
 #[test]
 fn only_the_receiver_gets_rights(rt: HostRuntime) {
     let missing = Denial {

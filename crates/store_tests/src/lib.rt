@@ -7,6 +7,8 @@
 #![tactic(auto)]
 
 #[cfg(test)]
+mod alike;
+#[cfg(test)]
 mod could;
 #[cfg(test)]
 mod hands;
@@ -20,6 +22,8 @@ mod opened;
 mod parts;
 #[cfg(test)]
 mod payloads;
+#[cfg(test)]
+mod reopened;
 #[cfg(test)]
 mod resumed;
 #[cfg(test)]

@@ -1,7 +1,7 @@
 //! Stores and what they are opened with.
 
 use std::alloc::Global;
-use tg_model::Opening;
+use tg_model::{Edge, Opening};
 use tg_payload::{CellPayload, Draft, Payload, values_of};
 use tg_store::{Limits, Store};
 
@@ -21,8 +21,18 @@ pub(crate) fn opening_of<P: Payload>(
     drafts: &[Draft<P>],
     most: u64,
 ) -> Option<Opening> {
+    opening_with(alloc, drafts, Vec::new(alloc), most)
+}
+
+/// An opening of workers with these drafts and these edges, in which so many vertices may be made.
+pub(crate) fn opening_with<P: Payload>(
+    alloc: Global,
+    drafts: &[Draft<P>],
+    edges: Vec<Edge>,
+    most: u64,
+) -> Option<Opening> {
     let values = values_of(alloc, drafts).ok()?;
-    Opening::new(drafts.len() as u64, Vec::new(alloc), values, most).ok()
+    Opening::new(drafts.len() as u64, edges, values, most).ok()
 }
 
 /// A store of workers with these drafts, and no edge, in which so many vertices may be made.

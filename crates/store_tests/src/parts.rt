@@ -1,4 +1,4 @@
-//! Parts of a store's journal that an auditor is fed: in their order, twice, and with one left out.
+//! Parts of a store's journal that an auditor is fed. They come in their order, twice, and with one left out.
 use crate::opened::{self, cells};
 use crate::shown::is_shown;
 use std::alloc::Global;
@@ -16,14 +16,15 @@ fn open(alloc: Global) -> Option<Store<CellPayload>> {
     opened::open(alloc, cells(alloc, 2)?, limits, 100)
 }
 
-// The part with one entry: a read that is denied, so that it changes nothing. A read that is refused leaves no entry.
+// The part with one entry. It is a read that is denied, so that it changes nothing. A read that is refused leaves no
+// entry.
 fn part_of_a_read(store: &mut Store<CellPayload>) -> Journal {
     let _read = store.apply(0, Command::Read { target: 1 }).is_ok();
     store.take_journal()
 }
 
-// Feeds an auditor three such parts: the first; the third, as if the second were lost; the second, twice; the third;
-// and the first again.
+// Feeds an auditor three such parts. First comes part one. Then comes part three, as if part two were lost. Then part
+// two comes twice, then part three, and then part one again.
 fn answers(alloc: Global, store: &mut Store<CellPayload>) -> Option<Answers> {
     let mut auditor = Auditor::open(alloc, store.opening()).ok()?;
     let first = part_of_a_read(store);

@@ -3,6 +3,6 @@
 mod bad;
 mod hosts;
 mod mixture;
-mod opened;
+pub(crate) mod opened;
 mod room;
 mod shown;

@@ -1,4 +1,4 @@
-//! Scripts in memory: replies of any length, and a race whose workers have threads of their own.
+//! Scripts in memory, with replies of any length, and a race whose workers have threads of their own.
 ghost use Rattle.tg_script.specs.Inner.Counting.{MayCountInMemory};
 
 use crate::meet::{MANY_TURNS, Meet};
@@ -59,8 +59,8 @@ fn long_replies(rt: HostRuntime) -> Result<(), Fail> {
     Ok(())
 }
 
-// Runs the script as a race of the two, and answers how it ends. The counts of the source and of the sink are those of
-// the ledgers A and F.
+// Runs the script as a race of the two, and returns how it ends. The source is counted by ledger A, and the sink by
+// ledger F.
 fn race_counted<A: Ledger, F: Ledger, G: Turnstile + Sync, R: Threads + Wait + Sync>(
     host: &RaceHost<G, R>,
     script: &[u8],
@@ -94,7 +94,7 @@ fn race_counted<A: Ledger, F: Ledger, G: Turnstile + Sync, R: Threads + Wait + S
     ))
 }
 
-// The same, with counts of its own.
+// Runs the script as a race of the two, with ledgers of its own, and returns how it ends.
 fn race<G: Turnstile + Sync, R: Threads + Wait + Sync>(
     rt: &R,
     alloc: Global,

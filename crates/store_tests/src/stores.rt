@@ -1,4 +1,4 @@
-//! A store with payloads of its user's own: what it lends of them, and why it is full.
+//! A store with payloads of its user's own. It shows what the store lends of them, and why it is full.
 
 use crate::opened;
 use std::alloc::{AllocError, Global};

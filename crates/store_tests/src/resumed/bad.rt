@@ -53,7 +53,7 @@ fn place(
     }
 }
 
-// What becomes of two legal entries and a third one: a create of vertex 2, a write to it, and the third.
+// The outcome of two legal entries and a third entry. The legal entries are a create of vertex 2 and a write to it.
 fn place_after(alloc: Global, third: Entry) -> Option<Result<u64, u64>> {
     let store = open(alloc, 8)?;
     let entries = [create_cell(Reply::Name(2)), write(0, Reply::Done), third];
@@ -64,8 +64,8 @@ fn place_after(alloc: Global, third: Entry) -> Option<Result<u64, u64>> {
     place(resumed(alloc, store, part))
 }
 
-// Creates: one that is legal, one whose name was given before, one whose name is ahead, and one that made no vertex
-// though there is room.
+// The outcomes of four creates. The first is legal. The second has a name that was given before, and the third a name
+// that is ahead. The fourth made no vertex, although there is room.
 fn places_of_replies(alloc: Global) -> [Option<Result<u64, u64>>; 4] {
     [
         place_after(alloc, create_cell(Reply::Name(3))),

@@ -115,7 +115,7 @@ struct HostSeen {
     // the tag of the one vertex that was made, and how often its maker was asked
     tag: Option<u64>,
     asked: u64,
-    // how many entries of the resumed store tell of either refusal
+    // how many entries the resumed store has of either refusal
     workers_full: u64,
     vertices_full: u64,
 }

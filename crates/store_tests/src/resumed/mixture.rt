@@ -1,8 +1,9 @@
-//! A store whose journal is taken out in parts, and another that is resumed from these.
+//! A store whose journal is taken out in parts, and another that is resumed from the parts.
 use super::opened::{all_on_values, create, open, resumed, whole};
+use crate::alike::is_alike;
 use std::alloc::Global;
 use tg_journal::Journal;
-use tg_model::{Command, Law, Reply};
+use tg_model::{Command, Law};
 use tg_payload::{Draft, LawPayload};
 use tg_resume::Part;
 use tg_rights::{Label, Right, Rights};
@@ -79,8 +80,8 @@ fn fed(alloc: Global, store: Store<LawPayload>, journal: &Journal) -> Option<Sto
     Some(store)
 }
 
-// A store of so many blocks that is resumed from two parts: from one that was taken out, and from what the first store
-// has made since.
+// A store of so many blocks that is resumed from two parts. The first part was taken out before, and the second is what
+// the first store has made since.
 fn again(
     alloc: Global,
     blocks: u64,
@@ -90,31 +91,6 @@ fn again(
     churn(alloc, store)?;
     let other = fed(alloc, open(alloc, blocks)?, taken)?;
     fed(alloc, other, store.journal())
-}
-
-// Whether a command has the same reply in both stores.
-fn is_alike(
-    store: &mut Store<LawPayload>,
-    other: &mut Store<LawPayload>,
-    worker: u64,
-    command: &Command,
-) -> bool {
-    match store.apply(worker, *command) {
-        Ok(reply) => has_reply(other, worker, command, &reply),
-        Err(_) => false,
-    }
-}
-
-fn has_reply(
-    store: &mut Store<LawPayload>,
-    worker: u64,
-    command: &Command,
-    wanted: &Reply,
-) -> bool {
-    match store.apply(worker, *command) {
-        Ok(reply) => reply.same(wanted),
-        Err(_) => false,
-    }
 }
 
 // Whether a worker lists and reads the same in both stores.
@@ -150,7 +126,7 @@ fn compare(store: &mut Store<LawPayload>, other: &mut Store<LawPayload>) -> Mixt
     }
 }
 
-// Works on the store, and resumes another one of so many blocks from its journal.
+// Works on the store, and resumes another store of so many blocks from its journal.
 fn seen_of(alloc: Global, blocks: u64, store: &mut Store<LawPayload>) -> Option<MixtureSeen> {
     let taken = work(alloc, store)?;
     let resumed = again(alloc, blocks, &taken, store);

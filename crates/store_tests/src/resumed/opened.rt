@@ -1,7 +1,8 @@
 //! Stores of payloads by law.
+use crate::opened::opening_with;
 use std::alloc::Global;
 use tg_model::{Edge, Opening};
-use tg_payload::{Draft, LawPayload, Payload, values_of};
+use tg_payload::{Draft, LawPayload, Payload};
 use tg_resume::{ByLaw, Part, ResumeStopped, resume};
 use tg_rights::{Label, Right, Rights};
 use tg_store::{Limits, Store};
@@ -36,8 +37,12 @@ fn opening_of(alloc: Global, drafts: &[Draft<LawPayload>]) -> Option<Opening> {
         label,
     };
     let edges = Vec::from_array(alloc, [edge]).ok()?;
-    let values = values_of(alloc, drafts).ok()?;
-    Opening::new(2, edges, values, MOST).ok()
+    opening_with(alloc, drafts, edges, MOST)
+}
+
+/// The opening of these stores.
+pub(crate) fn opening(alloc: Global) -> Option<Opening> {
+    opening_of(alloc, &two_drafts(alloc)?)
 }
 
 /// A store of two workers. A space may have so many blocks.

@@ -7,14 +7,14 @@ use tg_store::{RoomFault, Store};
 
 // Where a store stops in a part.
 #[derive(Clone, Copy)]
-struct Stop {
+struct StopSeen {
     at: u64,
     why: RoomFault,
     // whether the store then has exactly the entries before that place
     has_those_before: bool,
 }
 
-impl Stop {
+impl StopSeen {
     // Whether the heap was full there. The cells of three blocks are enough for 60 vertices and too few for 200.
     fn is_full(&self) -> bool {
         self.why == RoomFault::HeapFull && self.has_those_before && 60 < self.at && self.at < 200
@@ -26,7 +26,7 @@ fn stop_in(
     alloc: Global,
     store: Store<LawPayload>,
     part: Part,
-) -> Option<(Store<LawPayload>, Stop)> {
+) -> Option<(Store<LawPayload>, StopSeen)> {
     match resumed(alloc, store, part) {
         Ok(store) => {
             store.let_go();
@@ -34,7 +34,7 @@ fn stop_in(
         }
         Err(ResumeStopped::NoRoom { at, why, store }) => {
             let has_those_before = store.census().entries == at;
-            let stop = Stop {
+            let stop = StopSeen {
                 at,
                 why,
                 has_those_before,
@@ -49,7 +49,7 @@ fn stop_in(
 }
 
 // Where a store of three blocks stops in a part, and where it stops if it is fed from there.
-fn stops(alloc: Global, part: Part) -> Option<[Stop; 2]> {
+fn stops(alloc: Global, part: Part) -> Option<[StopSeen; 2]> {
     let (store, once) = stop_in(alloc, open(alloc, 3)?, part)?;
     let rest = part.rest(once.at).unwrap_or(part);
     let (store, again) = stop_in(alloc, store, rest)?;

@@ -13,7 +13,7 @@ fn is_shown(alloc: Global, stopped: &ResumeStopped<LawPayload>, wanted: &str) ->
     }
 }
 
-// The same of one that is let go then.
+// Whether a stopped resume is shown so. It is let go afterwards.
 fn was_shown(alloc: Global, stopped: ResumeStopped<LawPayload>, wanted: &str) -> bool {
     let is_shown = is_shown(alloc, &stopped, wanted);
     let_go(stopped);

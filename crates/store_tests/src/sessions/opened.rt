@@ -42,7 +42,7 @@ pub(crate) fn open_store(alloc: Global) -> Option<Store<CellPayload>>
     Store::open(alloc, opening, limits, drafts).ok()
 }
 
-/// How many vertices a store has, and how many collections of the nurseries, and full ones, it has made.
+/// How many vertices a store has, and how many nursery collections and full collections it has made.
 pub(crate) type Counted = [u64; 3];
 
 /// What is counted of a store. A collection that nobody asked for shows here.

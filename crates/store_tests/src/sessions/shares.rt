@@ -1,5 +1,5 @@
-//! A store of two workers whose three vertices are shared out: one uses up its share, the other still has its own, and
-//! a leave is paid for.
+//! A store of two workers whose three vertices are shared out. One worker uses up its share, and the other still has
+//! its own. A leave is paid for.
 ghost use Rattle.std.specs.Prelude.{◌≡◌, ◌+◌, ◌≤◌};
 ghost use Rattle.tg_store.specs.Store.{graph_of_store};
 ghost use Rattle.tg_shared.specs.Sessions.{MayShare};
@@ -21,7 +21,7 @@ const WHOLE: Portion = Portion {
     entries: 6,
 };
 
-// The share of the second client; the first has the rest.
+// The share of the second client. The first client has the rest.
 const SECOND: Portion = Portion {
     vertices: 1,
     entries: 3,
@@ -41,8 +41,8 @@ struct ShareSeen {
     lacks: Option<Lack>,
     // whether the second still makes its own
     other_made: bool,
-    // how many edges the first gives up by a leave that it can't pay for, and by one that it can; and the entries that
-    // its purse then has
+    // how many edges the first gives up by a leave that it can't pay for, and by a leave that it can pay for. Then the
+    // entries that its purse has
     left: [Option<u64>; 2],
     paid_to: u64,
     // how many entries the closed store has, and what else is counted of it
@@ -176,14 +176,14 @@ fn seen_of_two<L: Round, V: Ledger, E: Ledger, R: Wait>(
     }
 }
 
-// Puts a client's session behind the others. The close is refused without it.
+// Puts a client's session after the others. The close is refused without it.
 fn add<L: Round, V: Ledger, E: Ledger>(sessions: &mut Vec<Session<L>>, client: Client<L, V, E>) {
     let Client { session, purse } = client;
     drop(purse);
     let _added = sessions.push(session);
 }
 
-// The same with what is counted of the closed store.
+// Adds the counts of the closed store to what was seen.
 fn with_counts(seen: ShareSeen, store: Store<CellPayload>) -> ShareSeen {
     let entries = store.journal().len();
     let counted = counted(&store);
@@ -232,8 +232,9 @@ fn story<R: Wait>(rt: &R, alloc: Global) -> Option<ShareSeen> {
     }
 }
 
-// Who has used up its share is refused by it, and the other one makes what its own share has. A leave that can't be
-// paid for is refused, and one that can costs an entry for each edge and one more. Nobody collects.
+// A client that has used up its share is refused by it, and the other client makes what its own share has. A leave that
+// can't be paid for is refused. A leave that can be paid for costs an entry for each edge, and one more. Nobody
+// collects.
 #[test]
 fn shares_hold_and_are_paid_from(rt: HostRuntime) {
     let wanted = ShareSeen {

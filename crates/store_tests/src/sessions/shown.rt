@@ -13,7 +13,7 @@ fn is_shown<T: Display + Drop>(alloc: Global, shown: T, wanted: &str) -> bool {
     }
 }
 
-// That worker 2 has too few of these.
+// The fault that worker 2 has too few vertices or entries.
 fn share_of(lacks: Lack) -> ShareFault {
     ShareFault { worker: 2, lacks }
 }

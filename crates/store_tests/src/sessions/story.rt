@@ -1,5 +1,5 @@
-//! A shared store of two workers: what its sessions are told, two parts of its journal, a session that is taken over
-//! and a worker that is ended, and what is had back.
+//! A shared store of two workers. Its sessions get answers, and its journal is handed out in two parts. One session is
+//! taken over, and one worker is ended. In the end the store is taken back.
 ghost use Rattle.std.specs.Prelude.{◌≡◌, true};
 ghost use Rattle.tg_shared.specs.Sessions.{MayShare};
 
@@ -14,13 +14,13 @@ use tg_shared::{
 };
 use tg_store::{ApplyFault, Store};
 
-// A part of a journal: the place of its first entry, the one behind its last, and whether receipts match it.
+// A part of a journal: the place of its first entry, the one after its last, and whether receipts match it.
 type Part = (u64, u64, bool);
 
 // What is seen while the store is shared: where it can't be, nothing.
 #[derive(Clone, Copy)]
 struct StoryTold {
-    // the bits of what each of the two sessions is told that it holds over the vertex that the first one made
+    // the bits of the rights that each of the two sessions holds over the vertex that the first session made
     labels: [u8; 2],
     // two parts, each with the receipts of the first
     parts: [Part; 2],
@@ -143,7 +143,7 @@ fn end_nobody<L: Round, R: Wait>(
 }
 
 // Lets the first session make a vertex, and asks both what they hold over it. Takes two parts of the journal. Then the
-// second makes one, and its worker is ended; and so is a name that is no worker's.
+// second makes one, and its worker is ended. An end is also tried with a name that is no worker's.
 fn tell_of_two<L: Round, R: Wait>(
     rt: &R,
     alloc: Global,
@@ -176,7 +176,7 @@ fn tell_of_two<L: Round, R: Wait>(
     }
 }
 
-// The same of the sessions of a store, of which there have to be two.
+// Plays the story with the sessions of a store. There have to be two sessions.
 fn tell<L: Round, R: Wait>(
     rt: &R,
     alloc: Global,
@@ -192,14 +192,15 @@ fn tell<L: Round, R: Wait>(
     }
 }
 
-// Of the store that is had back with both sessions: how many entries its keeper made, and at which place its last part
-// ended; how many entries there are, and from which place on the store holds them; and what is counted of it.
+// Numbers of the store that is taken back with both sessions. The first two are how many entries its keeper made, and
+// at which place its last part ended. The next two are how many entries there are, and from which place on the store
+// holds them. The last are its counts.
 type Back = ([u64; 4], Counted);
 
-// What is seen, and what of the store that is had back.
+// What is seen of the shared store, and of the store that is taken back.
 type StorySeen = (StoryTold, Option<Back>);
 
-// The numbers of the entries, where the store was had back.
+// The numbers of the entries, if the store was taken back.
 fn entries_of<L: Round>(keeper: &Keeper<L>, closed: Option<Store<CellPayload>>) -> Option<Back> {
     let store = closed?;
     let journal = store.journal();
@@ -270,12 +271,12 @@ fn story<R: Wait>(rt: &R, alloc: Global) -> StorySeen {
     }
 }
 
-// What is told of the store while it is shared.
+// What the sessions see of the store while it is shared.
 fn while_shared<R: Wait>(rt: &R, alloc: Global) -> StoryTold {
     story(rt, alloc).0
 }
 
-// A session is told the label of its own worker.
+// A session gets the label of its own worker.
 #[test]
 fn labels_are_told(rt: HostRuntime) {
     assert_eq!(rt; while_shared(&rt, rt.alloc()).labels, [3, 0]);
@@ -303,8 +304,8 @@ fn a_worker_is_ended(rt: HostRuntime) {
     assert_eq!(rt; while_shared(&rt, rt.alloc()).ended, wanted);
 }
 
-// A label is the one that the graph has now: a worker that the keeper ended holds nothing over its own vertex any more,
-// though its session was told of rights over it before, and no call of the session came in between.
+// A label is that of the graph now. A worker that the keeper ended holds nothing over its own vertex any more. Its
+// session saw rights over the vertex before, and made no call in between.
 #[test]
 fn a_label_is_not_remembered(rt: HostRuntime) {
     assert_eq!(rt; while_shared(&rt, rt.alloc()).held_by_ended, [3, 0]);
@@ -319,8 +320,9 @@ fn nobody_else_is_ended(rt: HostRuntime) {
     );
 }
 
-// The store is closed without the session that was taken over, and with that of the worker that was ended; it holds
-// the entries that are in no part, from where the keeper's last one ended. Nobody asked it to collect, and it didn't.
+// The store is closed without the session that was taken over, and with the session of the worker that was ended. The
+// store holds the entries that are in no part, from the place where the keeper's last part ended. Nobody asked it to
+// collect, and it didn't.
 #[test]
 fn a_shared_store_is_cut_and_closes(rt: HostRuntime) {
     assert_eq!(rt; story(&rt, rt.alloc()).1, Some(([2, 4, 8, 4], [5, 0, 0])));

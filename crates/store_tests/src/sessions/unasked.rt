@@ -1,6 +1,6 @@
 //! Collections that nobody asks for. No clause of a session's call, of a keeper's or of a close says that it collects
-//! nothing. So a store is counted that was asked for all but a collection while vertices lay there that nobody reaches,
-//! and that was had back in three ways.
+//! nothing. So the counts are of a store that was asked for all but a collection, while it had vertices that nobody
+//! reaches. The store was taken back in three ways.
 ghost use Rattle.std.specs.Prelude.{◌≡◌};
 ghost use Rattle.tg_shared.specs.Sessions.{MayShare};
 
@@ -13,7 +13,7 @@ use tg_payload::CellPayload;
 use tg_shared::{Blanks, Keeper, Round, Session, Shared, SharedStore, close, close_with, reclaim};
 use tg_store::{Kind, Store};
 
-// What is done with the sessions of a store until it is had back.
+// What is done with the sessions of a store until it is taken back.
 #[derive(Clone, Copy, PartialEq, Eq)]
 enum UnaskedWay {
     // all calls are made but collections, and the store is closed with its keeper
@@ -38,7 +38,7 @@ fn gives_up<L: Round, R: Wait>(
     makes(rt, alloc, store, session) && is_answered(rt, store, session, given_up)
 }
 
-// Makes each call but a collection. The session of who was spawned, if all were answered.
+// Makes each call but a collection. Returns the session of the spawned subject, if all calls were answered.
 fn act_of_two<L: Round, R: Wait>(
     rt: &R,
     alloc: Global,
@@ -60,7 +60,7 @@ fn act_of_two<L: Round, R: Wait>(
     }
 }
 
-// The same with the sessions of a store, of which there have to be two.
+// Makes each call but a collection with the sessions of a store. There have to be two sessions.
 fn act<L: Round, R: Wait>(
     rt: &R,
     alloc: Global,
@@ -74,7 +74,7 @@ fn act<L: Round, R: Wait>(
     }
 }
 
-// Acts, and closes the store with the session that was made behind the others.
+// Acts, and closes the store with the session that was made after the others.
 fn acted<L: Round, R: Wait>(
     rt: &R,
     alloc: Global,
