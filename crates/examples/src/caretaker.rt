@@ -1,10 +1,11 @@
-//! An example: a program that embeds the store.
+//! An example of a program that embeds the store.
 //!
-//! A caretaker keeps a document. It hands the right to read it on to a visitor, who reads it, gives the right back and
-//! can't read it any more. Then the caretaker gives up its own rights, and the document is gone. Collections run in
-//! between, and no reply tells of them. At the end the journal is audited (`story`).
+//! A caretaker keeps a document, and hands the right to read it on to a visitor. The visitor reads the document, gives
+//! the right back, and can't read the document any more. Then the caretaker gives up its own rights, and the document
+//! is gone. Collections run in between, and no reply changes because of them. At the end the journal is audited
+//! (`story`).
 //!
-//! `run_boxed` makes the payloads, in boxes, and all that is done with them is generic in the payload.
+//! `run_boxed` makes the payloads in boxes. All other code is generic in the payload.
 
 mod story;
 
@@ -12,8 +13,8 @@ use crate::fault::StoryFault;
 use story::{Boxes, run_story};
 use tg_payload::{CellPayload, PayloadBox, SumPayload};
 
-/// Makes the boxes, a cell with 0 for each worker and a document that adds up what is written to it, from 40 on, and
-/// tells the story with them.
+/// Makes the boxes, and runs the story with them. Each worker has a cell with 0. The document has a sum that begins
+/// with 40.
 pub fn run_boxed<R: Print + AllocGlobal>(rt: &R) -> Result<(), StoryFault> {
     let alloc = rt.alloc();
     let caretaker: PayloadBox = Box::new(alloc, CellPayload::new(0))?;

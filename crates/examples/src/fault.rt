@@ -9,25 +9,25 @@ use tg_shares::ShareFault;
 use tg_store::StoreFault;
 use thiserror::Error;
 
-/// Why a story ends early: the line on standard error, after its name.
+/// Why a story ends early. It is the line on standard error, after the story's name.
 #[derive(Clone, Copy, Debug, Error)]
 pub enum StoryFault {
     /// Letters that name no right, or no letter.
     #[error("bad label")]
     BadLabel,
-    /// There is no session for one who is to have one.
+    /// A subject of the story has no session.
     #[error("a session is missing")]
     NoSession,
     /// A desk refused a call.
     #[error("{0}")]
     Desk(#[from] DeskFault),
-    /// A store or a session refused a call, or memory for it was wanting.
+    /// A store or a session refused a call, or memory for it ran out.
     #[error("{0}")]
     Store(#[from] StoreFault),
     /// A client's purse can't pay.
     #[error("{0}")]
     Share(#[from] ShareFault),
-    /// A shared store was not had back.
+    /// A shared store couldn't be closed.
     #[error("{0}")]
     Close(CloseFault),
     /// Standard output failed.
@@ -36,7 +36,7 @@ pub enum StoryFault {
 }
 
 impl<T: Drop> From<AllocFailed<T>> for StoryFault {
-    // What there was no memory for is dropped.
+    // The value for which there was no memory is dropped.
     fn from(_refused: AllocFailed<T>) -> StoryFault {
         StoryFault::Store(StoreFault::OutOfMemory)
     }

@@ -1,13 +1,13 @@
-//! Examples: five stories of programs that embed the store, one after the other.
+//! Five stories of programs that embed the store, one after the other:
 //!
 //! - `caretaker`: a store, rights that are handed on and given back, collections and an audit. Read it first.
 //! - `stand_in`: how to take a right back, although no rule does. The proof reaches into the program.
 //! - `deputy`: a store that is shared by sessions on two threads.
-//! - `service`: subjects that come and go while others work, and one that hangs.
-//! - `tenants`: clients who pay for their commands, and one who can't any more.
+//! - `service`: subjects that come and go while others work, and a subject that hangs.
+//! - `tenants`: clients that pay for their commands, until one can't pay any more.
 //!
-//! Each has a folder of its own. They share what stores are opened with (`opening`), what sessions are asked for
-//! (`sessions`), how a reply is shown (`tell`), and why a story ends early (`fault`).
+//! Each story has a folder of its own. The stories share four modules. They open stores (`opening`), ask sessions for
+//! commands (`sessions`), show replies (`tell`), and say why a story ends early (`fault`).
 #![tactic(auto)]
 
 mod caretaker;
@@ -44,7 +44,7 @@ enum Story {
     Tenants,
 }
 
-// The stories, in the order in which they are told.
+// The stories, in their order.
 const STORIES: [Story; 5] = [
     Story::Caretaker,
     Story::StandIn,
@@ -77,7 +77,7 @@ impl Story {
     }
 }
 
-// Tells a story under its heading.
+// Runs a story under its heading.
 fn run<R: Threads + Wait + Sync + Print + AllocGlobal>(
     rt: &R,
     story: Story,

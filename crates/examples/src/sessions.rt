@@ -1,4 +1,4 @@
-//! What a session is asked for.
+//! The calls of a session that the stories share.
 
 use std::sync::Wait;
 use tg_model::{Command, Reply};
@@ -7,7 +7,7 @@ use tg_rights::Label;
 use tg_shared::{Round, Session, SharedStore};
 use tg_store::StoreFault;
 
-/// Makes a vertex over which the session's subject has these rights. Answers its name.
+/// Makes a vertex over which the session's subject has these rights. Returns its name.
 pub fn make<L: Round, P: Payload, R: Wait>(
     rt: &R,
     store: &SharedStore<L, P>,
@@ -18,7 +18,7 @@ pub fn make<L: Round, P: Payload, R: Wait>(
     Ok(session.create(rt, store, rights, draft)?)
 }
 
-/// Puts a command of the session's subject to the store. Answers the reply; a denial is one.
+/// Asks the store for a command of the session's subject. Returns the reply. A denial is a reply.
 pub fn reply_to<'a, L: Round, P: Payload, R: Wait>(
     rt: &R,
     store: &SharedStore<L, P>,

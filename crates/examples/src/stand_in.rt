@@ -1,13 +1,13 @@
-//! An example: how to take back, though no rule does.
+//! An example of how to take back, although no rule does.
 //!
-//! An owner keeps a count, and shows it to a client for as long as it likes. It never hands the count out, but a
-//! vertex of its own that stands in for it, and fills that with what the count says (`desk`). The client may hand on
-//! what it has, and does. To take back, the owner empties what stands in, and stops: nobody is told of the count any
-//! more, whoever holds what.
+//! An owner keeps a count, and shows it to a client for as long as it likes. It never hands the count itself out. It
+//! hands out a second vertex, the stand-in, and fills it with the number of the count (`desk`). The client may hand on
+//! what it has, and does so. To take back, the owner empties the stand-in, and stops. After that nobody reads the count
+//! any more, whatever rights they hold.
 //!
-//! What is proved of it stands in `laws`, for each graph and whatever anybody does, and in the contracts of `Desk`, for
-//! this program. Before it hands anything out, the owner asks whether the client could ever come to read the count
-//! itself (`foresight`).
+//! The proofs are in two places. `laws` has what holds for each graph, whatever anybody does. The contracts of `Desk`
+//! have what holds for this program. Before the owner hands anything out, it asks whether the client could ever come to
+//! read the count itself (`foresight`).
 
 mod desk;
 mod fault;

@@ -1,4 +1,4 @@
-//! What is printed of a reply.
+//! The lines that are printed of a reply.
 
 use crate::fault::StoryFault;
 use std::io;
@@ -21,7 +21,7 @@ fn print_reply<R: Print>(rt: &R, asked: &str, reply: &Reply) -> io::Result<()> {
     }
 }
 
-// Prints what was asked for, and what came of it.
+// Prints what was asked for, and the outcome.
 fn print<R: Print>(rt: &R, asked: &str, outcome: &str) -> io::Result<()> {
     println!(rt; "{asked}: {outcome}")
 }
@@ -32,8 +32,8 @@ pub fn tell_audit<R: Print>(rt: &R, entries: u64) -> Result<(), StoryFault> {
     Ok(())
 }
 
-// Prints why what was asked for was denied: two vertices that are one, rights that are missing on an edge, or a target
-// that stores no log.
+// Prints why a command was denied. Two of its vertices are the same, rights are missing on an edge, or its target
+// stores no log.
 fn print_denial<R: Print>(rt: &R, asked: &str, denial: &Denial) -> io::Result<()> {
     match denial.cause {
         Cause::NotDistinct => print(rt, asked, "denied, its vertices have to differ"),

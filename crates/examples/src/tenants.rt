@@ -1,8 +1,8 @@
-//! An example: two tenants of one store, each of whom pays for its commands out of a purse of its own.
+//! An example of two tenants of one store. Each pays for its commands out of a purse of its own.
 //!
 //! Together they may make two vertices and seven entries. One tenant has three of these entries, and the other four.
-//! Each makes a document and writes to it three times. The first can't pay for its last write: its purse refuses, and
-//! says what is used up. The other one goes on as if nothing had happened.
+//! Each makes a document and writes to it three times. The first tenant can't pay for its last write. Its purse
+//! refuses, and says what is used up. The other tenant goes on as if nothing had happened.
 
 mod opening;
 mod story;

@@ -22,15 +22,15 @@ use tg_word::{Place, Slot, pack};
 // The cells of a heap with one block of Old, one of Aged and one of a nursery.
 const CELLS: u64 = 192;
 
-// What stands in the cells of a heap.
+// What is in the cells of a heap.
 #[derive(Clone, Copy)]
 enum Content {
     // objects without references
     Alone,
-    // by fours an object that links to a chunk, an object, a chunk that links to the next, and that one; all but the
-    // last refer to objects, several to each
+    // groups of four cells. A group has an object that links to a chunk, an object, a chunk that links to the next, and
+    // the next chunk. All but the last refer to objects, several to each
     Linked,
-    // of a nursery's objects the first refers to the second, and so on to the fourth; the first one in Old refers to
+    // of a nursery's objects the first refers to the second, and so on to the fourth. The first object in Old refers to
     // the second and the third
     Chain,
 }
@@ -162,9 +162,9 @@ fn as_taken(alloc: Global, roots: &[Root]) -> Result<Vec<Root>, AllocError> {
     Ok(taken)
 }
 
-// Whether a seat is served as one thread is that has the roots in the order of the seat, and gives each cell the same
-// place in a full collection, which no contract says. In a nursery collection it looks at eight roots at a time, so
-// that other cells may go straight to Old.
+// Whether a seat is served as one thread that has the roots in the order of the seat. In a full collection each cell
+// gets the same place. No contract says this. In a nursery collection it looks at eight roots at a time, so that other
+// cells may go straight to Old.
 fn same_at_a_seat(alloc: Global, spaces: &Spaces, roots: &[Root], kind: Kind) -> bool
     requires { AreSound spaces.now.spaces roots.now }
 {
@@ -176,13 +176,17 @@ fn same_at_a_seat(alloc: Global, spaces: &Spaces, roots: &[Root], kind: Kind) ->
     }
 }
 
-// The same, where one thread has these roots.
+// Whether it is served as one thread that has the roots `taken`.
 fn is_as_by_one(alloc: Global, spaces: &Spaces, roots: &[Root], kind: Kind, taken: &[Root]) -> bool
     requires sound { AreSound spaces.now.spaces roots.now }
     requires taken { AreSound spaces.now.spaces taken.now }
 {
     match collect_one(alloc, spaces, taken, kind, Spare::none(alloc)) {
-        Ok(one) => is_moved_so(alloc, spaces, roots, kind, &one.forward),
+        Ok(one) => {
+            let is_so = is_moved_so(alloc, spaces, roots, kind, &one.forward);
+            drop(one);
+            is_so
+        }
         Err(why) => is_refused_so(alloc, spaces, roots, kind, why),
     }
 }
@@ -194,7 +198,10 @@ fn is_moved_so(alloc: Global, spaces: &Spaces, roots: &[Root], kind: Kind, one: 
 {
     match collect_seated(alloc, spaces, roots, kind, Spare::none(alloc)) {
         Ok(seated) => {
-            kind == Kind::Nursery || have_same_words(one, &seated.forward, spaces.cells())
+            let is_so = kind == Kind::Nursery
+                || have_same_words(one, &seated.forward, spaces.cells());
+            drop(seated);
+            is_so
         }
         Err(_) => false,
     }
@@ -204,10 +211,7 @@ fn is_moved_so(alloc: Global, spaces: &Spaces, roots: &[Root], kind: Kind, one: 
 fn is_refused_so(alloc: Global, spaces: &Spaces, roots: &[Root], kind: Kind, why: RoomFault) -> bool
     requires { AreSound spaces.now.spaces roots.now }
 {
-    match collect_seated(alloc, spaces, roots, kind, Spare::none(alloc)) {
-        Ok(_) => false,
-        Err(seated) => seated == why,
-    }
+    collect_seated(alloc, spaces, roots, kind, Spare::none(alloc)).err() == Some(why)
 }
 
 // Whether these cells have the same forwarding words.
@@ -239,7 +243,7 @@ fn refusal_by<R: Threads + Wait + Sync, G: Gate>(
     collect_many(rt, alloc, spaces, roots, kind, helpers, gate, spare).err()
 }
 
-// The same of one helper, two and eight.
+// The refusals of one helper, of two and of eight.
 fn refusals<R: Threads + Wait + Sync>(
     rt: &R,
     alloc: Global,
@@ -256,7 +260,8 @@ fn refusals<R: Threads + Wait + Sync>(
     ]
 }
 
-// The same, where the heap is sound and one thread collects it as a seat is served.
+// The refusals of one helper, of two and of eight. There are none if the heap isn't sound, or one thread doesn't
+// collect it as a seat is served.
 fn refusals_each_way<R: Threads + Wait + Sync>(
     rt: &R,
     alloc: Global,
@@ -273,17 +278,19 @@ fn refusals_each_way<R: Threads + Wait + Sync>(
     Some(refusals(rt, alloc, spaces, roots, kind))
 }
 
-// The same of the linked cells by their rows, with these remembered chunks.
+// The refusals for the linked cells, with their rows and these remembered chunks as roots.
 fn refusals_of_linked<R: Threads + Wait + Sync>(
     rt: &R,
     alloc: Global,
     kind: Kind,
     remembered: &[Root],
 ) -> Option<[Option<HelpersFault>; 3]> {
-    let spaces = heap_of(alloc, Content::Linked, 16)?;
     let mut roots = rows_of(alloc, Content::Linked, CELLS)?;
     roots.extend_from_slice(remembered).ok()?;
-    refusals_each_way(rt, alloc, &spaces, &roots, kind)
+    let spaces = heap_of(alloc, Content::Linked, 16)?;
+    let refusals = refusals_each_way(rt, alloc, &spaces, &roots, kind);
+    drop(spaces);
+    refusals
 }
 
 // Rows, and for a nursery collection a remembered chunk of Old that refers to a young object.

@@ -27,7 +27,7 @@ fn lists(alloc: Global, numbers: &[u64]) -> Result<Vec<Vec<u64>>, AllocError> {
     Ok(lists)
 }
 
-// Two roots, to the cells 0 and 1, which lead to one another; nothing leads to the cell 2.
+// Two roots, to the cells 0 and 1, which lead to one another. Nothing leads to the cell 2.
 fn three_cells(alloc: Global) -> Result<World, AllocError> {
     let roots = lists(alloc, &[0, 1])?;
     let mut targets = lists(alloc, &[1, 0])?;
@@ -133,7 +133,7 @@ fn has_looked(record: Option<&Record>) -> bool {
     }
 }
 
-// One record stands for both helpers and is complete: it has the chunk past the last, and has won both targets.
+// One record represents both helpers and is complete: it has the chunk past the last, and has won both targets.
 fn has_all(record: Option<&Record>) -> bool {
     match record {
         Some(v) => v.share == 2 && v.chunks.contains(&1) && has_won_both(v),
@@ -146,7 +146,7 @@ fn has_won_both(record: &Record) -> bool {
     won.len() == 2 && won.contains(&(0, FIRST)) && won.contains(&(1, SECOND))
 }
 
-// Whether each event of both helpers, up to where they meet, happens where it could: the place FIRST is used, and
+// Whether each event of both helpers, up to where they meet, happens where it could. The place FIRST is used, and
 // nothing that was claimed or won leads to the cell 2.
 fn race_to_the_meeting(world: &mut World) -> [bool; 5] {
     let by_0 = happen_of_0(world);
@@ -179,10 +179,10 @@ fn race_of_three_cells(rt: HostRuntime) {
     assert_eq!(rt; race_in(rt.alloc()), Some(([true; 5], true, true)));
 }
 
-// What one helper is handed at a table: its chunk of roots, whether a cell has no place yet, a block of Old, an aged
-// one, and how many words it closes with.
+// What one helper gets at a table. It gets its chunk of roots, whether a cell has no place yet, a block of Old, and an
+// aged block. At the end it gets how many words it closes with.
 fn handed_at_the_table(alloc: Global) -> Option<(u64, bool, u64, u64, usize)> {
-    // three blocks of Old stay, and five cells behind them may be moved
+    // three blocks of Old stay, and five cells after them may be moved
     let Opened {
         table,
         mut helper,

@@ -12,7 +12,7 @@ fn filled(alloc: Global) -> Option<Spaces> {
     is_filled(&mut spaces).then_some(spaces)
 }
 
-// Allocates the cells, and tells whether each is the next of its nursery's first block.
+// Allocates the cells, and shows whether each is the next of its nursery's first block.
 fn is_filled(spaces: &mut Spaces) -> bool {
     for cell in 0..64 {
         if !is_next(spaces, 0, cell) {
@@ -88,7 +88,8 @@ fn word_vectors(rt: HostRuntime) {
 
 #[test]
 fn words_off_the_layout(rt: HostRuntime) {
-    // Not present; space 66; a bit above the present one. Then three words of a layout with four rights.
+    // A word that isn't present, a word of space 66, and a word with a bit above the present bit. Then three words of a
+    // layout with four rights.
     let read = [
         unpack(0x0000_0000_0000_0001),
         unpack(0x0000_0308_0000_0000),
@@ -126,7 +127,7 @@ fn is_number_64_of_filled(alloc: Global, place: Place) -> Option<(bool, bool)> {
     Some(is_number_64(&spaces, place))
 }
 
-// The first cell of nursery 1, which stands behind the 64 of nursery 0.
+// The first cell of nursery 1, which is after the 64 cells of nursery 0.
 #[test]
 fn flat_numbers(rt: HostRuntime) {
     let place = Place {

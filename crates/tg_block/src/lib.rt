@@ -58,9 +58,9 @@ pub const LINK: usize = 7;
 pub enum CellKind {
     /// All words are 0.
     Free,
-    /// A vertex: the first word is 1.
+    /// A vertex. The first word is 1.
     Object,
-    /// More references of a vertex: the first word is 2.
+    /// More references of a vertex. The first word is 2.
     Chunk,
     /// None of these.
     Bad,
@@ -81,7 +81,7 @@ impl Model for Block {
 }
 
 impl Block {
-    /// A block of free cells; refused only where memory for its 4 KiB was.
+    /// A block of free cells. It is refused only if memory for its 4 KiB runs out.
     pub fn new(alloc: Global) -> Result<Block, AllocError>
         ensures { IfOk result (λ block. block ≡ free_block) }
     {
@@ -118,7 +118,7 @@ impl Block {
         self.cells[cell][i]
     }
 
-    /// Sets a word of a cell; all other words stay.
+    /// Sets a word of a cell. All other words stay.
     #[inline]
     pub fn set_word(&mut self, cell: usize, i: usize, word: u64)
         requires cell_inside { cell < CELLS }
@@ -148,7 +148,7 @@ impl Block {
         &self.cells[at]
     }
 
-    /// Sets the words of a cell; all other cells stay.
+    /// Sets the words of a cell. All other cells stay.
     #[inline]
     pub fn set_cell(&mut self, at: usize, words: [u64; WORDS])
         requires { at < CELLS }

@@ -12,10 +12,10 @@ use atomic_table::Closed;
 use std::alloc::{AllocError, Global};
 use std::marker::Model;
 
-/// The words of a closed table, behind the first ones, which are of no use any more. A clause sees a list of words.
+/// The words of a closed table, after the first ones, which are of no use any more. A clause sees a list of words.
 pub struct ClosedWords {
     closed: Closed<u8, Global>,
-    // how many words stand in front
+    // how many words are in front
     front: usize,
 }
 
@@ -31,7 +31,7 @@ impl Model for ClosedWords {
 }
 
 impl ClosedWords {
-    /// The words of a closed table without slots, behind so many in front.
+    /// The words of a closed table without slots, after so many in front.
     pub fn of(closed: Closed<u8, Global>, front: usize) -> Self
         requires full { IsFull closed.words }
         requires front { front ≤ slots_len closed.words }
@@ -65,8 +65,8 @@ impl Drop for ClosedWords {
     }
 }
 
-/// As many zeros: in the room, whatever it holds, where that is enough; else the room is given back, and the zeros take
-/// memory of their own.
+/// As many zeros. They are in the room if it is large enough, whatever it holds. Otherwise the room is given back, and
+/// the zeros take memory of their own.
 ///
 /// It is refused only where memory was.
 #[inline(never)]

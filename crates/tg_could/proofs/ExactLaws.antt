@@ -167,7 +167,7 @@ module _ (silent : ℕ → Type 0) (right : Right) (y : ℕ) (g : ProtectionGrap
     missed : (way : Way) (v : ℕ) → Led silent right y g way v → is_in s way v ≡ false → Fault
     missed way v led out = inl (record { way = way; v = v; led = led; out = out })
 
-    -- rights that stand from a to b lead out of neither set, and x is neither their holder nor their gift; or one is missed, or
+    -- rights that are from a to b lead out of neither set, and x is neither their holder nor their gift; or one is missed, or
     -- the right is brought to x
     may_add_or : (a b : ℕ) (rights : RightSet) → ((q : Right) → has rights q ≡ true → Holds g.label a q b) → MayAdd s x right y a b rights ⊎ Fault
     may_add_or a b rights stands =

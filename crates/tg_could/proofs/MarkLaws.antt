@@ -114,7 +114,7 @@ pub all-seen : (P : ℕ → Type 0) (items subjects : List ℕ) (i : ℕ) → it
 all-seen P items subjects i same end seen k d inside = seen k d (omega arith) (omega (arith, inside, end, ap length same))
 
 module _ (silent : List ℕ) (p : Shown) (g : ProtectionGraph) (picture : IsPictureOf p g) where
-  -- what stands on the graph stands on the picture
+  -- what is on the graph is on the picture
   pub on_picture : (a b : ℕ) (q : Right) → Holds g.label a q b → Holds (label_in p.edges) a q b
   on_picture a b q h = ap (λ m. has m q) (sym (picture.labels a b)) ∙ h
 

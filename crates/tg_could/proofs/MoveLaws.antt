@@ -31,7 +31,7 @@ after-append g (turn ∷ turns) more = after-append (step g turn.0 turn.1) turns
 
 -- ---- graphs that grow
 
--- what stands in the graph was made, and no vertex holds a right over itself
+-- what is in the graph was made, and no vertex holds a right over itself
 pub record IsFit (h : ProtectionGraph) : Type 0 where
   pub made : IsMade h
   pub no_loop : (a : ℕ) (q : Right) → ¬ Holds h.label a q a

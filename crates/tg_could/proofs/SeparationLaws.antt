@@ -20,7 +20,7 @@ use Rattle.tg_model.proofs.PictureLaws.{Holds-with_rights}
 use Rattle.tg_could.specs.Turns.{Turn, Acts, AreTurns, after, MayCome}
 use Rattle.tg_could.specs.Separation.{Sides, MayAdd, Parts, Separates}
 
--- ---- which rights stand where after a change of labels
+-- ---- which rights are where after a change of labels
 
 first_true : (a b : Bool) → (a && b) ≡ true → a ≡ true
 first_true true b h = refl

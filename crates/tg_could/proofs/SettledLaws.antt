@@ -49,7 +49,7 @@ module _ (silent : ℕ → Type 0) (r : Right) (y : ℕ) (g : ProtectionGraph) w
 abbrev pub KeepsAt : Sides → Right → ℕ → Edge → Type 0
 KeepsAt s r y e = KeepsSides s r y (λ a b. e.label) e.from e.to
 
--- what holds of the sets behind some of the edges
+-- what holds of the sets after some of the edges
 pub record GoesAlong (r : Right) (y : ℕ) (edges : List Edge) (start now : LedNames) (i : ℕ) : Type 0 where
   pub led : (silent : List ℕ) (g : ProtectionGraph) → AreAmong edges g.label → AreLed (IsSilent silent g) r y g (sides_led start) → AreLed (IsSilent silent g) r y g (sides_led now)
   pub more : number_led start ≤ number_led now
@@ -123,7 +123,7 @@ pub pictured-among : (p : Shown) (g : ProtectionGraph) → IsPictureOf p g → (
 pictured-among p g picture edges is a b q h =
     ap (λ m. has m q) (picture.labels a b) ∙ subst (λ (es : List Edge). Holds (label_in es) a q b) is h
 
--- a count that was taken behind is more than the one before
+-- a count that was taken after is more than the one before
 pub more_than : (a b before behind : ℕ) → a ≡ before → b ≡ behind → ltb a b ≡ true → before < behind
 more_than a b before behind at_before at_behind more =
     let less = ltb-true a b more in

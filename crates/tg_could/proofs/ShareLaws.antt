@@ -263,7 +263,7 @@ module _ (silent : ℕ → Type 0) (g : ProtectionGraph) where
         }
 
     module _ (right : Right) (y : ℕ) (p q : ℕ) (p_acts : Acts silent g p) (q_acts : Acts silent g q) (differ : p ≢ q) (link : Link p q p_acts q_acts differ) where
-      -- behind the object of p a link, and what comes of both
+      -- after the object of p a link, and the outcome of both
       through : (n : ℕ) → Shares right y n p → {P : ProtectionGraph → Type 0} → ((k : ProtectionGraph) → Grows g k → k.made ≢ name → HasBox right y g.made k p → (l : ProtectionGraph) → Grows k l → AreLinked k.made l p q → Leads silent l 0 P) → InTime (n + 1) P
       through n shares go h grows kept room =
           spares_on silent g name owner h n 1 (n + 1) (omega arith) (shares.share h grows kept (omega (arith, room)))

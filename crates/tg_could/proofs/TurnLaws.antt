@@ -1,4 +1,4 @@
--- The graph that a replay of turns stands for.
+-- The graph that a replay of turns represents.
 use Rattle.std.proofs.Common.{◌≡◌, ⊎_elim, ℕ, zero, suc, ◌+◌, ◌<◌, ◌≤◌, ◌==◌, ◌&&◌, Bool, true, false, cond, List, [], ◌∷◌, ◌++◌, length, get_or, refl, sym, ap, ap₂, ◌∙◌, subst, arith}
 use Rattle.std.specs.List.{Contains}
 use Rattle.std.specs.Prelude.{IfOk, IsTrue, Result}
@@ -28,7 +28,7 @@ use Rattle.tg_model.proofs.PictureLaws.{or_true, Holds-pushed, Holds-still, Hold
 use Rattle.tg_could.specs.Inner.Trial.{Stands}
 use Rattle.tg_could.specs.declared.witness.trial.Trial.{Trial}
 
--- edges that stand on a graph stand on it with more rights too, and so does the new one
+-- edges that are on a graph are on it with more rights too, and so does the new one
 pub among-with : (es : List Edge) (label : ℕ → ℕ → RightSet) (from to : ℕ) (rights : RightSet) → AreAmong es label → AreAmong es (with_rights label from to rights)
 among-with es label from to rights among a b q h = Holds-still label from to rights a q b (among a b q h)
 
@@ -45,7 +45,7 @@ among-added es new label e is among a b q h =
 label_in-first : (e : Edge) (es : List Edge) (a b : ℕ) → label_in (e ∷ es) a b ≡ with_rights (label_in es) e.from e.to e.label a b
 label_in-first e es a b = ap (λ m. cond ((a == e.from) && (b == e.to)) m (label_in es a b)) (union_comm e.label (label_in es a b))
 
--- each right of an edge of a list stands in the list
+-- each right of an edge of a list is in the list
 pub Holds-member : (es : List Edge) (i : ℕ) (e : Edge) → i < length es → e ≡ get_or es i e → (q : Right) → has e.label q ≡ true → Holds (label_in es) e.from q e.to
 Holds-member [] i e inside is q h = absurd (omega (arith, inside))
 Holds-member (first ∷ es) zero e inside is q h =
@@ -87,7 +87,7 @@ pub edge_stands : (es : List Edge) (i : ℕ) (e : Edge) (label : ℕ → ℕ →
 edge_stands es i e label among inside is =
     holds_all-each (label e.from e.to) e.label (λ q h. among e.from e.to q (Holds-member es i e inside is q h))
 
--- a trial with one edge more stands for the graph with it
+-- a trial with one edge more represents the graph with it
 pub stands-added : (edges : List Edge) (t new : Trial) (g : ProtectionGraph) (e : Edge) → new.added.items ≡ t.added.items ++ e ∷ [] → new.subjects.items ≡ t.subjects.items → new.made ≡ t.made → new.limit ≡ t.limit → Stands edges t g → Stands edges new (record g { label = with_rights g.label e.from e.to e.label })
 stands-added edges t new g e added subjects made limit stands = record {
   subjects = stands.subjects ∙ sym subjects;
@@ -97,7 +97,7 @@ stands-added edges t new g e added subjects made limit stands = record {
   later = among-added t.added.items new.added.items g.label e added stands.later;
 }
 
--- a trial with one vertex more stands for the graph with it
+-- a trial with one vertex more represents the graph with it
 pub stands-made : (edges : List Edge) (t new : Trial) (g : ProtectionGraph) (p : ℕ) (making : Making) (rights : RightSet) (value : Value) → t.made < t.limit → ((making ≡ Subject) × (MAX_WORKERS ≤ length t.subjects.items) → ⊥) → new.added.items ≡ t.added.items ++ record { from = p; to = t.made; label = rights } ∷ [] → new.subjects.items ≡ subjects_making making t.subjects.items t.made → new.made ≡ t.made + 1 → new.limit ≡ t.limit → Stands edges t g → Stands edges new (step g p (deed_making making rights value))
 stands-made edges t new g p making rights value low few added subjects made limit stands =
     let room : HasRoom making g = record {
@@ -115,7 +115,7 @@ stands-made edges t new g p making rights value low few added subjects made limi
           (among-added t.added.items new.added.items g.label (record { from = p; to = t.made; label = rights }) added stands.later);
     })
 
--- what comes of making a vertex comes of the deed that makes it
+-- the outcome of making a vertex comes of the deed that makes it
 pub made-by : (r : Result Bool AllocError) (edges : List Edge) (t new : Trial) (p : ℕ) (making : Making) (rights : RightSet) (value : Value) (deed : Deed) → deed ≡ deed_making making rights value → IfOk r (λ made. IsTrue made → (es : List Edge) (g : ProtectionGraph) (v : Value) → Stands es t g → Stands es new (step g p (deed_making making rights v))) → IfOk r (λ made. IsTrue made → (g : ProtectionGraph) → Stands edges t g → Stands edges new (step g p deed))
 made-by r edges t new p making rights value deed is =
     IfOk-weaker r _ _ (λ made each yes g stands. subst (λ (d : Deed). Stands edges new (step g p d)) (sym is) (each yes edges g value stands))

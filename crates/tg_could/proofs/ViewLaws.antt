@@ -118,7 +118,7 @@ gathered-at f r x y words word {n = n} {m = m} are_words at_x at_y are =
 
 -- ---- checks
 
--- each edge that has an entry stands as all entries do
+-- each edge that has an entry is as all entries do
 pub entered-stand : (names : Names) (islands : Islands) (incoming : Incoming) (entries : List PackedEdge) (edges : List Edge) → All (IsEntered names entries) edges → All (JoinsEntry islands) entries → All (IsIn incoming) entries → All (Stands names islands incoming) edges
 entered-stand names islands incoming entries edges entered joined in_parts k d inside =
     let none : PackedEdge = record { to = 0; from = 0; label = (slice_index_or edges k d).label } in

@@ -22,7 +22,7 @@ IsFar g v = MayCome g v × (g.made + 65536 < v)
 
 -- `Never`: x never holds the right over y, whatever those who act do. `Could`: it does after these turns. `WantsNames`: it does
 -- after them where so many more vertices may be made, and names are short. `Open`: so it does after some turns, which aren't
--- told, where names aren't short; of names that are far it says nothing.
+-- reported, where names aren't short; of names that are far it says nothing.
 abbrev pub IsAnswer : List ℕ → ProtectionGraph → ℕ → Right → ℕ → Answer → Type 0
 IsAnswer silent g x right y (Never separation) = NeverHolds silent g x right y
 IsAnswer silent g x right y (Could turns) = LeadThere silent g turns.items x right y

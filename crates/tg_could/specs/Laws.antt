@@ -18,7 +18,7 @@ IsSeparated silent g x right y = (s : Sides) × Separates (IsSilent silent g) s 
 abbrev pub IsBroughtTo : List ℕ → ProtectionGraph → ℕ → Right → ℕ → Type 0
 IsBroughtTo silent g x right y = IsBrought (IsSilent silent g) right y g x
 
--- the graph has the names and the helpers that the turns behind such walks take
+-- the graph has the names and the helpers that the turns after such walks take
 pub record HasMeans (silent : List ℕ) (g : ProtectionGraph) (x y : ℕ) : Type 0 where
   pub sound : IsSound g
   pub long : ¬ IsShort g x y

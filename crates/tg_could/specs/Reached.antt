@@ -66,7 +66,8 @@ NeverHoldsAlso silent g h x right y = NeverHolds silent g x right y → NeverHol
 abbrev pub LeadThereAlso : List ℕ → ProtectionGraph → ProtectionGraph → ℕ → Right → ℕ → Type 0
 LeadThereAlso silent g h x right y = (turns : List Turn) → LeadThere silent g turns x right y → LeadThere silent h turns x right y
 
--- What is told of a graph. `Unreached`: x was made, no active subject reaches it, and it holds what it holds. Else the answer.
+-- What is reported of a graph. `Unreached`: x was made, no active subject reaches it, and it holds what it holds. Else the
+-- answer.
 abbrev pub IsToldOf : List ℕ → ProtectionGraph → ℕ → Right → ℕ → ReachedAnswer → Type 0
 IsToldOf silent g x right y Unreached = (x < g.made) × (¬ IsReachable g x) × HoldsWhatItHolds g x
 IsToldOf silent g x right y (Of answer) = (IsReachable g x ⊎ (g.made ≤ x)) × IsAnswer silent g x right y answer
@@ -75,7 +76,7 @@ IsToldOf silent g x right y (Of answer) = (IsReachable g x ⊎ (g.made ≤ x)) �
 abbrev pub OnReached : Scene → (ProtectionGraph → Type 0) → Type 0
 OnReached scene holds = (g : ProtectionGraph) → IsSound g → IsReachedPicture scene.picture.now g → holds g
 
--- what is told of the question is so of the graph
+-- what is reported of the question is so of the graph
 abbrev pub ReachedAnswerOf : Scene → Question → ReachedAnswer → ProtectionGraph → Type 0
 ReachedAnswerOf scene q told g = IsToldOf scene.silent.now g q.x q.right q.y told
 

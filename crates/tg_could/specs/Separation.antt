@@ -56,7 +56,7 @@ pub record Separates (silent : ℕ → Type 0) (s : Sides) (x : ℕ) (right : Ri
 
 -- ---- as marks
 
--- the two bits of a number, with those of the numbers behind it above them
+-- the two bits of a number, with those of the numbers after it above them
 unfoldable pub pair_in : List ℕ → ℕ → ℕ
 pair_in words number = slice_index_or words (number / 32) 0 / 2 ^ (number % 32 * 2)
 
@@ -68,14 +68,14 @@ is_first pair = bit_and (pair / 2) 1 == 1
 unfoldable pub is_second : ℕ → Bool
 is_second pair = bit_and pair 1 == 1
 
--- the sides that the two bits of each name stand for
+-- the sides that the two bits of each name represent
 abbrev pub sides_of : Separation → Sides
 sides_of m = record {
   forward = λ v. is_first (pair_in m.pairs.words.items (number_in m.names v));
   back = λ v. is_second (pair_in m.pairs.words.items (number_in m.names v));
 }
 
--- the sides that they stand for where a search went back from x: whom it didn't reach
+-- the sides that they represent where a search went back from x: whom it didn't reach
 abbrev pub sides_against : Separation → Sides
 sides_against m = record {
   forward = λ v. not (is_second (pair_in m.pairs.words.items (number_in m.names v)));

@@ -26,9 +26,9 @@ pub enum Answer {
     Never(Separation),
     /// x holds it after these turns, each of one who acts by then.
     Could(Vec<(u64, Deed)>),
-    /// x holds it after these turns where so many more vertices may be made than are left. This doesn't say whether
-    /// others lead there with those that are left. It comes only if y was made and fewer than 64 names are left besides
-    /// x.
+    /// x holds it after these turns where so many more vertices may be made than are left. Other turns may do with the
+    /// names that are left, and the answer doesn't say so. It comes only if y was made and fewer than 64 names are left
+    /// besides x.
     WantsNames {
         /// The turns, each of one who acts by then.
         turns: Vec<(u64, Deed)>,
@@ -37,8 +37,8 @@ pub enum Answer {
     },
     /// Nothing is known. The answer is about a name that isn't made yet and that comes after over 65,536 others. Turns
     /// would have to make all of these, so ask about the next name in its place. No other name is known to get this
-    /// answer. If another got it, x could come to hold the right after turns that aren't shown, if 64 names besides x
-    /// are left or y isn't made yet.
+    /// answer. If another got it, x could come to hold the right after turns that aren't shown. For this 64 names
+    /// besides x have to be left, or y isn't made yet.
     Open,
 }
 
@@ -59,10 +59,10 @@ impl Answer {
 
 /// Whether x could ever come to hold a right over y, by any turns of the active subjects but the silent ones. The
 /// picture is that of the graph. A name in `silent` that was never made is ignored. A subject that retired is asked
-/// about like any object. A name that isn't made yet is asked about as one that those who act may make, and over which
-/// they may have the right, or to which they may hand it. A `Could` makes each name up to that name. If over 65,536
-/// others come before it, the answer is `Never` or `Open`. Takes time and memory in proportion to the picture and to
-/// these names. Fails only when out of memory.
+/// about like any object. A name that isn't made yet is a vertex that those who act may make. They may have the right
+/// over it, or hand the right to it. A `Could` makes each name up to that name. If over 65,536 others come before it,
+/// the answer is `Never` or `Open`. Takes time and memory in proportion to the picture and to these names. Fails only
+/// when out of memory.
 pub fn could_hold(alloc: Global, scene: &Scene, question: Question) -> Result<Answer, AllocError>
     ensures { IfOk result (λ answer. OnGraphs scene.now (AnswerOf scene.now question answer)) }
 {
@@ -74,7 +74,7 @@ pub fn could_hold(alloc: Global, scene: &Scene, question: Question) -> Result<An
     }
 }
 
-// What is answered of what the search has found; none where x never holds the right. Fails only when out of memory.
+// The answer by what the search has found. There is none if x never holds the right. Fails only when out of memory.
 fn settle(
     alloc: Global,
     scene: &Scene,
@@ -100,8 +100,8 @@ fn settle(
     Ok(None)
 }
 
-// The turns that the search leads to; none where they don't lead there, or want more names though many are left. Fails
-// only when out of memory.
+// The turns that the search leads to. There are none if x doesn't hold the right after them, or if they need more names
+// although many are left. Fails only when out of memory.
 fn tell_turns(
     alloc: Global,
     scene: &Scene,
@@ -138,7 +138,8 @@ fn is_far(picture: &Picture, name: u64) -> bool
     comes_later(picture, name) && name - picture.made() > MOST_MADE
 }
 
-// Whether names are few for the right over a y that was made: fewer than 64 are left, or 64 and x is one of them.
+// Whether names are few for the right over a y that was made. They are few if fewer than 64 are left, or if 64 are left
+// and x is one of them.
 fn is_short(picture: &Picture, x: u64, y: u64) -> bool
     ensures { IsTrue result → (g : ProtectionGraph) → IsPictureOf picture.now g → IsShort g x y }
 {

@@ -2,8 +2,8 @@
 use tg_model::{Deed, Picture};
 use tg_rights::Right;
 
-/// What a question is asked about: the picture of a graph, and who takes no turns. All other active subjects act, and
-/// so does whoever is spawned later.
+/// What a question is about. It is the picture of a graph, and the subjects that take no turns. All other active
+/// subjects act, and so does whoever is spawned later.
 #[derive(Clone, Copy, Drop)]
 pub struct Scene<'a> {
     /// The picture.
@@ -12,7 +12,7 @@ pub struct Scene<'a> {
     pub silent: &'a [u64],
 }
 
-/// What is asked: could x ever come to hold the right over y?
+/// The question whether x could ever come to hold the right over y.
 #[derive(Clone, Copy, Drop)]
 pub struct Question {
     /// The name of the one who would hold the right.

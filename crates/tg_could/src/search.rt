@@ -1,4 +1,4 @@
-//! The search: who may come to hold a right, and on which way. What it finds is checked (`Separation::parts`,
+//! The search. It finds who may come to hold a right, and on which way. What it finds is checked (`Separation::parts`,
 //! `lead_there`), so that nothing has to be believed of it. It goes back along take edges first, and looks at all
 //! others only where this leads to one who acts.
 pub(crate) mod growth;
@@ -24,8 +24,8 @@ pub(crate) struct Hop {
     pub(crate) forward: bool,
 }
 
-// A step as it is kept, in 8 bytes: the number of the vertex twice, and one more where it was put into the first set;
-// and the place of the step that led there, `NONE` where the search began.
+// A step as it is kept, in 8 bytes. The first half is twice the number of the vertex, and one more if it was put into
+// the first set. The second half is the place of the step before, or `NONE` if the search began here.
 #[derive(Clone, Copy, Drop)]
 struct PackedHop {
     packed: u32,
@@ -42,8 +42,8 @@ pub(crate) struct Findings {
     pub(crate) grown: Result<(), AllocError>,
 }
 
-// The edges with take or grant at each vertex: from those that have grant over it, and to those over which it has one
-// of both.
+// The edges with take or grant at each vertex. They come from the vertices that have grant over it, and go to the
+// vertices over which it has take or grant.
 #[derive(Drop)]
 struct Ways {
     granters: Links,
@@ -141,8 +141,8 @@ impl Findings {
         drop(takers);
     }
 
-    // Puts the holder of an edge into the second set, where it has the right over the vertex; and links the target of
-    // one that has take to its holder.
+    // Puts the holder of an edge into the second set, if it has the right over the vertex. If the edge has take, links
+    // its target to its holder.
     fn begin_at(&mut self, takers: &mut Links, edge: &Edge, right: Right, over: u64) {
         if edge.to == over && has(edge.label, right) {
             self.put_name(edge.from, false);

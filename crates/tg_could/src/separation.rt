@@ -1,4 +1,4 @@
-//! Separations: two sets of vertices, and whether they part someone from a right.
+//! Separations. A separation is two sets of vertices, which may part a vertex from a right.
 ghost use Rattle.std.specs.Prelude.{◌≡◌, ◌≢◌, ◌⊎◌, ◌↔◌, ℕ, false, ◌<◌, ◌≤◌, IsTrue, length};
 ghost use Rattle.std.specs.List.{Contains};
 ghost use Rattle.tg_rights.specs.RightSet.{has as has_right};
@@ -20,7 +20,7 @@ use std::alloc::{AllocError, Global};
 use tg_model::{Edge, MAX_WORKERS, Picture};
 use tg_rights::{Label, Right, Rights};
 
-/// Why x never holds a right: two sets of names, two bits for each name that the picture shows.
+/// Why x never holds a right. It is two sets of names, with two bits for each name that the picture shows.
 pub struct Separation {
     pub(crate) names: Names,
     pub(crate) pairs: Pairs,
@@ -36,7 +36,7 @@ impl Drop for Separation {
     }
 }
 
-/// Where a vertex is: in the first set, and in the second.
+/// Whether a vertex is in the first set, and whether it is in the second.
 #[derive(Clone, Copy, Drop)]
 pub(crate) struct Membership {
     pub(crate) forward: bool,
@@ -62,7 +62,7 @@ pub(crate) fn is_among(names: &[u64], name: u64) -> bool
     names.contains(&name)
 }
 
-/// Whether a name is that of a silent one: it is in the list, and was made.
+/// Whether a name is that of a silent subject. Then it is in the list, and was made.
 pub(crate) fn is_silent(silent: &[u64], made: u64, name: u64) -> bool
     ensures { IsTrue result ↔ (Contains silent.now name × (name < made)) }
 {

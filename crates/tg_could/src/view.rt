@@ -33,8 +33,8 @@ pub struct View {
     is_shown: bool,
 }
 
-/// What was found of a picture: who acts, the islands, the edges by their targets, and whether as many subjects as may
-/// be are active.
+/// What was found of a picture. It is who acts, the islands, the edges by their targets, and whether as many subjects
+/// as may be are active.
 struct Facts {
     names: Names,
     actors: Vec<u64>,
@@ -76,9 +76,9 @@ impl View {
         Ok(View { facts, is_shown })
     }
 
-    /// Whether x could ever come to hold a right over y, by any turns of the active subjects but the silent ones, as of
-    /// the moment of [`View::open`]. `Never` is proved, and `Perhaps` says nothing. Takes no memory, and time in
-    /// proportion to the edges to y.
+    /// Whether x could ever come to hold a right over y, as of the moment of [`View::open`]. The silent subjects take
+    /// no turns, and all other active subjects may take any turns. `Never` is proved, and `Perhaps` says nothing. Takes
+    /// no memory, and time in proportion to the edges to y.
     pub fn could(&self, question: Question) -> Chance
         ensures { TellsNever (λ silent shown. IsViewOf silent shown self.now) result question }
     {
@@ -91,7 +91,7 @@ impl View {
 
 impl Facts {
     // The facts of a picture, by its entries, and the place of each entry's holder. Nothing is believed of them. Notes
-    // whether memory was wanting.
+    // whether memory ran out.
     fn of(
         alloc: Global,
         scene: &Scene,
@@ -115,7 +115,7 @@ impl Facts {
         (facts, places)
     }
 
-    // What a view tells, of facts that were checked.
+    // What a view answers by facts that were checked.
     fn could(&self, question: Question) -> Chance
         ensures { TellsNever (λ silent shown. IsCheckedOn silent shown self.now) result question }
     {
@@ -171,7 +171,7 @@ impl Facts {
         self.have_all(scene.picture.edges(), entries, places)
     }
 
-    // Whether each of these edges has an entry, which the words count, and whose holder stands at its place.
+    // Whether each of these edges has an entry, which the words count, and whose holder is at its place.
     fn have_all(&self, edges: &[Edge], entries: &PackedEdges, places: &[u32]) -> bool
         ensures { IsTrue result → All (Stands self.now.names self.now.islands self.now.incoming) edges.now }
     {
@@ -229,7 +229,7 @@ impl Facts {
         true
     }
 
-    // The same of one who acts.
+    // Whether one subject that acts is of the islands of a word or not, as x and y ask.
     fn is_placed(&self, x: u64, y: u64, word: u64, actor: u64) -> bool
         ensures { IsTrue result → IsPlaced self.now x y word actor }
     {
@@ -240,7 +240,7 @@ impl Facts {
     }
 }
 
-// Who acts. Notes whether memory was wanting.
+// Who acts. Notes whether memory ran out.
 fn actors_of(alloc: Global, scene: &Scene, grown: &mut Result<(), AllocError>) -> Vec<u64> {
     let mut actors = Vec::new(alloc);
     for subject in scene.picture.subjects() {

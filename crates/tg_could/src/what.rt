@@ -31,9 +31,9 @@ pub struct What {
     limit: u64,
 }
 
-/// The listed rights over each vertex, and whether every right over vertices that aren't made yet is listed. It also
-/// has the only one who acts if as many subjects as may be are active, because nobody comes to hold a right over that
-/// one.
+/// The listed rights over each vertex, and whether every right over vertices that aren't made yet is listed. If as many
+/// subjects as may be are active, it also has the only one who acts. The reason is that nobody comes to hold a right
+/// over this subject.
 #[derive(Drop)]
 struct Listed {
     names: Names,
@@ -133,7 +133,7 @@ fn is_that(one: Option<u64>, name: u64) -> bool
 }
 
 impl Listed {
-    // What x holds, and what is held by those whose rights it may get. Notes whether memory was wanting.
+    // What x holds, and what is held by those whose rights it may get. Notes whether memory ran out.
     fn of(
         alloc: Global,
         scene: &Scene,
@@ -173,7 +173,7 @@ impl Listed {
         name == x || is_that(self.alone, name)
     }
 
-    // The rights over a name that are told.
+    // The rights over a name that are listed.
     fn over(&self, name: u64) -> Rights
         ensures { result ≡ rights_over self.now name }
     {
@@ -183,7 +183,7 @@ impl Listed {
         }
     }
 
-    // Whether x never holds what isn't told, as far as the two sets show it.
+    // Whether x never holds a right that isn't listed, as far as the two sets show it.
     fn leaves_out(&self, sides: &Separation, scene: &Scene, x: u64) -> bool
         ensures { IsTrue result → NeverUnlisted scene.now x self.now }
     {
@@ -196,7 +196,7 @@ impl Listed {
         self.has_edges(sides, scene.picture.edges(), x)
     }
 
-    // Whether the one who is told as the only one who acts is.
+    // Whether the subject that is given as the only one who acts is the only one.
     fn has_alone(&self, scene: &Scene) -> bool
         ensures { IsTrue result → IfSome self.now.alone (IsOnlyActor scene.now.silent.now scene.now.picture.now) }
     {
@@ -206,7 +206,7 @@ impl Listed {
         }
     }
 
-    // Whether no edge leads out of the two sets, and what x may get of each is told.
+    // Whether no edge leads out of the two sets, and what x may get of each edge is listed.
     fn has_edges(&self, sides: &Separation, edges: &[Edge], x: u64) -> bool
         ensures { IsTrue result → All (ListsEdge (sides_against sides.now) self.now x) edges.now }
     {
@@ -218,7 +218,7 @@ impl Listed {
         true
     }
 
-    // The same of one edge.
+    // Whether one edge doesn't lead out of the two sets, and what x may get of it is listed.
     fn has_edge(&self, sides: &Separation, edge: &Edge, x: u64) -> bool
         ensures { IsTrue result → ListsEdge (sides_against sides.now) self.now x edge.now }
     {
@@ -249,7 +249,7 @@ impl Listed {
         true
     }
 
-    // The same of one subject.
+    // Whether one subject, if it takes turns, is in both sets or in none, and where it has to be.
     fn has_actor(&self, sides: &Separation, scene: &Scene, x: u64, subject: u64) -> bool
         ensures { IsTrue result → TakesTurns scene.now subject → ListsActor (sides_against sides.now) self.now scene.now.picture.now x subject }
     {

@@ -60,7 +60,7 @@ impl Who {
         self.of(first_later(self.made, self.over, self.limit))
     }
 
-    // What is told of a name that was made.
+    // What is listed of a name that was made.
     fn of_made(&self, name: u64) -> Chance
         ensures { (result ≡ Never) ↔ ¬ IsToldName self.now.told name }
     {
@@ -95,7 +95,7 @@ pub fn who_could(alloc: Global, scene: &Scene, right: Right, y: u64) -> Result<W
 }
 
 impl Candidates {
-    // Nobody is told. Notes whether memory was wanting.
+    // Nobody is listed. Notes whether memory ran out.
     fn none(alloc: Global, names: Names, grown: &mut Result<(), AllocError>) -> Candidates {
         Candidates {
             marks: Separation::none(alloc, names, grown),
@@ -103,8 +103,8 @@ impl Candidates {
         }
     }
 
-    // Adds who holds the right, who acts and may come to hold it, and to whom one who may can grant; but where y is
-    // alone those who hold it.
+    // Adds who holds the right, who acts and may come to hold it, and to whom a subject that may get it can grant. If y
+    // is alone, only the holders are added.
     fn tell(&mut self, scene: &Scene, found: &Findings, right: Right, y: u64) {
         let edges = scene.picture.edges();
         if is_alone(scene, y) {
@@ -137,7 +137,7 @@ impl Candidates {
         }
     }
 
-    // Whether a name is told.
+    // Whether a name is listed.
     fn has(&self, name: u64) -> bool
         ensures { result ≡ is_told self.now name }
     {
@@ -157,7 +157,7 @@ impl Candidates {
         }
     }
 
-    // Whether whoever isn't told never holds the right, as far as the two sets show it.
+    // Whether a name that isn't listed never holds the right, as far as the two sets show it.
     fn leaves_out(&self, sides: &Separation, scene: &Scene, right: Right, y: u64) -> bool
         ensures { IsTrue result → NeverUntold scene.now right y self.now }
     {
@@ -173,7 +173,7 @@ impl Candidates {
         self.has_gifts(sides, scene.picture.edges(), right, y)
     }
 
-    // Whether each is told who holds the right by an edge.
+    // Whether each vertex that holds the right by an edge is listed.
     fn has_holders(&self, edges: &[Edge], right: Right, y: u64) -> bool
         ensures { IsTrue result → All (TellsHolder self.now right y) edges.now }
     {
@@ -185,7 +185,8 @@ impl Candidates {
         true
     }
 
-    // Whether no edge leads out of the two sets, and each is told to whom one who may hold the right can grant.
+    // Whether no edge leads out of the two sets. Each vertex to which a possible holder of the right can grant is also
+    // listed.
     fn has_gifts(&self, sides: &Separation, edges: &[Edge], right: Right, y: u64) -> bool
         ensures { IsTrue result → All (TellsOf (sides_of sides.now) self.now right y) edges.now }
     {
@@ -197,7 +198,7 @@ impl Candidates {
         true
     }
 
-    // The same of one edge.
+    // Whether one edge doesn't lead out of the two sets, and its target is listed if it may get the right so.
     fn has_gift(&self, sides: &Separation, edge: &Edge, right: Right, y: u64) -> bool
         ensures { IsTrue result → TellsOf (sides_of sides.now) self.now right y edge.now }
     {
@@ -213,7 +214,7 @@ impl Candidates {
         both_imply(grant, from.forward, told)
     }
 
-    // Whether each who acts is in both sets or in none, and is told where it may hold the right.
+    // Whether each subject that acts is in both sets or in none, and is listed if it may hold the right.
     fn has_actors(&self, sides: &Separation, scene: &Scene, y: u64) -> bool
         ensures { IsTrue result →
             EachActor scene.now (TellsActor (sides_of sides.now) self.now scene.now.picture.now y) }
@@ -226,7 +227,7 @@ impl Candidates {
         true
     }
 
-    // The same of one subject.
+    // Whether one subject, if it takes turns, is in both sets or in none, and is listed if it may hold the right.
     fn has_actor(&self, sides: &Separation, scene: &Scene, y: u64, subject: u64) -> bool
         ensures { IsTrue result → TakesTurns scene.now subject → TellsActor (sides_of sides.now) self.now scene.now.picture.now y subject }
     {

@@ -1,4 +1,4 @@
-//! Witnesses: turns that lead there, replayed by the rules.
+//! Witnesses. A witness is a list of turns after which x holds the right, replayed by the rules.
 ghost use Rattle.std.specs.Prelude.{IfOk, IsTrue};
 ghost use Rattle.tg_could.specs.Scenes.{OnGraphs, WitnessOf};
 
@@ -26,7 +26,8 @@ pub fn lead_there(
     replay(alloc, scene, rows, question, witness)
 }
 
-/// Whether a witness leads there, where the edges from each vertex are known. Nothing is believed of these edges.
+/// Whether x holds the right after a witness, if the edges from each vertex are known. Nothing is believed of these
+/// edges.
 pub(crate) fn replay(
     alloc: Global,
     scene: &Scene,

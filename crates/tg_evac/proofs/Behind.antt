@@ -1,4 +1,4 @@
--- The cells that a collection moves stand behind those that stay.
+-- The cells that a collection moves are after those that stay.
 use Rattle.std.proofs.Common.{◌≡◌, ◌<◌, ◌≤◌, ◌+◌, ◌*◌, true, length, arith}
 use Rattle.std.specs.List.{All}
 use Rattle.std.proofs.lemmas.Bool.Decides.{nat_tests}

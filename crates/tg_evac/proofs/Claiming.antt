@@ -127,7 +127,7 @@ module _ (c : Claimed) (are : AreClaims c) where
   pub forward_links : (n : ℕ) → n < length c.forward → get_or c.forward n 0 ≢ 0 → IsClaimLink (get_or c.forward n 0)
   forward_links n low some = let found = pair_of c.won c.forward are.words n low some in subst (λ (w : ℕ). IsClaimLink w) (sym found.3) (placed found.0 found.1).link
 
-  -- no more cells are won than stand behind the first, where none of these is won
+  -- no more cells are won than are after the first, where none of these is won
   pub won_behind : (first : ℕ) → All (λ (w : Win). first ≤ w.cell) c.won → length c.won ≤ length c.forward - first
   won_behind first behind =
       let few = few_numbers first (length c.forward) (cells_won c.won) (distinct_map (λ (w : Win). w.cell) c.won (win_at [] 0) are.distinct) (λ q held.
@@ -353,7 +353,7 @@ module _ (c : Claimed) (are : AreClaims c) (w : Win) (space number : ℕ) (two :
     same_fixed = refl;
   }
 
--- the k-th pair of the claims, by the cell that stands there in the list of the cells
+-- the k-th pair of the claims, by the cell that is there in the list of the cells
 pub record PairAt (v : Claimed) (k cell : ℕ) : Type 0 where
   pub is : cell ≡ (win_at v.won k).cell
   pub inside : cell < length v.forward

@@ -37,7 +37,7 @@ pub record AreWins (kind : Kind) (h : SpaceList) (roots : List Root) (forward : 
   pub places : All (HasNewPlace (kept_blocks kind h)) won
   pub apart : AreDistinctWins won
 
--- the notes of these roots, and of these blocks of Old behind as many others
+-- the notes of these roots, and of these blocks of Old after as many others
 abbrev pub AreNotes : Kind → SpaceList → List Root → List ℕ → ℕ → BlockList → List Place → Type 0
 AreNotes kind h roots forward kept old notes = (p : Place) → Contains notes p ↔ ((Contains roots (Remembered p) × NamesYoung (moved_cell kind h forward p)) ⊎ (IsPlaceIn 0 kept old p × NamesYoung (new_cell kept old p)))
 
@@ -86,7 +86,7 @@ module _ (kind : Kind) (h : SpaceList) (roots : List Root) (won : List Win) (mad
   place_of_win : (w : Win) → Contains won w → HasNewPlace (kept_blocks kind h) w
   place_of_win w held = All-contains (HasNewPlace (kept_blocks kind h)) won w are.places held
 
-  -- the copy of a pair stands at its place
+  -- the copy of a pair is at its place
   copy_stands : (w : Win) → Contains won w → IsNewPlace kind h aged old (place_in w.word) × (cell_at (adopted kind h aged old) (place_in w.word) ≡ copy_of kind h forward w.cell)
   copy_stands w held = ⊎_elim
       (λ (in_old : (place_in w.word).space ≡ 0).

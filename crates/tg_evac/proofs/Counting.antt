@@ -76,13 +76,13 @@ used_is kind h = refl
 
 -- ---- where the numbers of from-space begin
 
--- how many cells stand before those of from-space
+-- how many cells are before those of from-space
 first_moved : Kind → SpaceList → ℕ
 first_moved Full h = 0
 first_moved Nursery [] = 0
 first_moved Nursery (old ∷ rest) = 64 * length old
 
--- a cell of from-space is one of the list, by its number behind the first
+-- a cell of from-space is one of the list, by its number after the first
 module _ (h : SpaceList) (is : All IsSpace h) where
   in_moved : (kind : Kind) (c : ℕ) → IsUsed kind h c → (k : ℕ) × (k < length (moved_cells kind h)) × (0 < get_or (get_or (moved_cells kind h) k []) 0 0) × (first_moved kind h + k ≡ c)
   unfolding first_moved

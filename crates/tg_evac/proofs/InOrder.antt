@@ -1,4 +1,4 @@
--- Copies that stand one after the other, and copies that name no young cell.
+-- Copies that are one after the other, and copies that name no young cell.
 use Rattle.std.proofs.Common.{◌≡◌, ◌≢◌, ℕ, ◌<◌, ◌≤◌, ◌+◌, ◌-◌, ◌*◌, ◌/◌, ◌%◌, ◌^◌, ◌==◌, Bool, true, false, [], List, length, get_or, map, take, drop, replicate, refl, sym, ap, subst, arith, ◌∙◌, lit<, ⊎_elim}
 use Rattle.std.specs.List.{All, Contains, flat_map}
 use Rattle.std.proofs.lemmas.Bool.{cases_lt}

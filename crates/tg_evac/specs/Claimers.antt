@@ -62,7 +62,7 @@ copies_to space kind h to won = map (λ w. image_at kind h to w.cell) (won_in sp
 abbrev pub AreCopiesIn : ℕ → Kind → SpaceList → List Win → List (List ℕ) → Type 0
 AreCopiesIn space kind h won copies = (to : ℕ → Place) → HasPlacesOf won to → copies ≡ copies_to space kind h to won
 
--- One more copy stands behind those there were: that of a cell with these words, under whatever map agrees with all that is
+-- One more copy is after those there were: that of a cell with these words, under whatever map agrees with all that is
 -- known.
 pub record AddsCopy (kind : Kind) (h : SpaceList) (knows : (ℕ → Place) → Type 0) (words : List ℕ) (before after : List (List ℕ)) : Type 0 where
   pub copy : List ℕ

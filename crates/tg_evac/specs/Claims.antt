@@ -87,7 +87,7 @@ pub record AreWordsOf (won : List Win) (forward : List ℕ) : Type 0 where
   pub stand : All (IsWonIn forward) won
   pub every : (c : ℕ) → c < length forward → slice_index forward c ≢ 0 → (w : Win) × Contains won w × (w.cell ≡ c)
 
--- the word of the pair is the link to a place of Old, behind the blocks that stay, or of Aged
+-- the word of the pair is the link to a place of Old, after the blocks that stay, or of Aged
 pub record HasNewPlace (kept : ℕ) (w : Win) : Type 0 where
   pub place : IsPlace (place_in w.word)
   pub link : w.word ≡ link_to (place_in w.word)
@@ -106,7 +106,7 @@ AreDistinctWins won = (v w : Win) → Contains won v → Contains won w → v.wo
 abbrev pub won_in : ℕ → List Win → List Win
 won_in space won = filter (is_in space) won
 
--- the number of the first new cell of Old, behind the blocks that stay, or of Aged
+-- the number of the first new cell of Old, after the blocks that stay, or of Aged
 abbrev pub first_new : ℕ → ℕ → ℕ
 first_new kept space = if space == 0 then CELLS * kept else 0
 
@@ -123,7 +123,7 @@ pub record AreClaims (c : Claimed) : Type 0 where
   pub two : length c.next ≡ 2
   pub few : (space : ℕ) → slice_index c.next space ≤ MOST_SPACE_CELLS
   pub room : c.plan.room ≤ MOST_SPACE_CELLS
-  -- the pairs of each space stand in order, up to the next number, and are all copies there
+  -- the pairs of each space are in order, up to the next number, and are all copies there
   pub in_order : (space : ℕ) → space < 2 → AreGivenInOrder space (first_new c.plan.kept space) (won_in space c.won)
   pub ends : (space : ℕ) → space < 2 → first_new c.plan.kept space + length (won_in space c.won) ≡ slice_index c.next space
   pub copies : (space : ℕ) → space < 2 → copies_in c.forward space ≡ length (won_in space c.won)

@@ -8,8 +8,8 @@ use Rattle.tg_space.specs.declared.root.Root.{Root}
 use Rattle.tg_evac.specs.Room.{IsReachedFrom, LacksRoomFor}
 
 -- What is handed over is a collection, of no more copies than there are cells in use, and within the limit, with so many
--- blocks of a space more than its copies need. It tells that the heap is full only where so many helpers may lack room for
--- what is reached
+-- blocks of a space more than its copies need. This call shows that the heap is full only where so many helpers may lack
+-- room for what is reached
 pub record CollectsRoots {Fault : Type 0} (heap_full : Fault) (kind : Kind) (t : SpaceTable) (roots : List Root) (more helpers : ℕ) (result : Result Copied Fault) : Type 0 where
   pub collected : IfOk result (λ copied. IsCollection kind t.spaces roots (collected_in copied))
   pub moved : IfOk result (λ copied. copies_in copied.forward.words 0 + copies_in copied.forward.words 1 ≤ used_cells kind t.spaces)

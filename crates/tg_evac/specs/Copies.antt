@@ -61,7 +61,7 @@ pub record HaveOpenBlock {A : Type 0} (full : BlockList) (last : Vec (List ℕ) 
   pub fits : IsOpenBlock last.items
   pub cells : CELLS ≤ vec_capacity last
 
--- the blocks have these cells one after the other, and free ones behind the last
+-- the blocks have these cells one after the other, and free ones after the last
 pub record HoldCells (cells : List (List ℕ)) (blocks : BlockList) : Type 0 where
   pub free : ℕ
   pub few : free < CELLS
@@ -69,7 +69,7 @@ pub record HoldCells (cells : List (List ℕ)) (blocks : BlockList) : Type 0 whe
 
 -- ---- copies
 
--- the copy of the pair's cell stands at the place of the pair's word
+-- the copy of the pair's cell is at the place of the pair's word
 pub record HasCopy (to kept : ℕ) (copy : ℕ → List ℕ) (blocks : BlockList) (w : Win) : Type 0 where
   pub place : IsPlaceIn to kept blocks (place_in w.word)
   pub words : new_cell kept blocks (place_in w.word) ≡ copy w.cell

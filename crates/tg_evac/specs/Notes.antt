@@ -17,7 +17,7 @@ made_cell made p = moved_cell made.moves.kind made.spaces.now.spaces made.moves.
 abbrev pub IsYoungRoot : Made → List Root → Place → Type 0
 IsYoungRoot made roots p = Contains roots (Remembered p) × NamesYoung (made_cell made p)
 
--- the cell is in one of these blocks of Old, behind as many others, and names a young one
+-- the cell is in one of these blocks of Old, after as many others, and names a young one
 abbrev pub IsYoungIn : ℕ → BlockList → Place → Type 0
 IsYoungIn kept blocks p = IsPlaceIn 0 kept blocks p × NamesYoung (new_cell kept blocks p)
 

@@ -1,5 +1,5 @@
 -- What a walk over the cells is handed, and what its steps promise, whatever table of claims it has: what the table has won,
--- what is known of it, and what it tells where it is full, are told by three functions of the table.
+-- what is known of it, and what it shows where it is full, are told by three functions of the table.
 use Rattle.std.specs.Prelude.{◌≡◌, ℕ, ◌*◌, ◌++◌, ◌<◌, ◌≤◌, Bool, List, drop, length, map, slice_index, take, Result, IfErr, IfOk, OnOk}
 use Rattle.std.specs.List.{All, Contains}
 use Rattle.tg_word.specs.declared.TheConstants.{CELLS}

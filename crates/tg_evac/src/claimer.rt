@@ -12,7 +12,7 @@ use tg_space::RoomFault;
 /// A table in which cells are claimed, each for one new place.
 ///
 /// One thread may have the table for itself, or several may share it. The walk over the cells is the same. It relies on
-/// two facts: a cell that was claimed has a place, and a place never changes.
+/// two facts. A cell that was claimed has a place, and a place never changes.
 pub trait Claimer {
     /// What else no claim changes.
     ghost Fixed: { Type 0 };
@@ -26,7 +26,7 @@ pub trait Claimer {
     /// What a refusal for lack of room implies.
     ghost is_full: { Self → Type 0 };
 
-    /// How many cells were won: no more than there are, and no more than either space has room for.
+    /// How many cells were won. There are no more than there are cells, and no more than either space has room for.
     fn len(&self) -> usize
         ensures count { result ≡ length (walked self.now).won }
         ensures few { result ≤ (walked self.now).cells }
@@ -38,13 +38,13 @@ pub trait Claimer {
         ensures cell { result ≡ (win_at (walked self.now).won k).cell }
         ensures inside { result < (walked self.now).cells };
 
-    /// Whether the copy of the cell that was won as the k-th is in Old; else it is in Aged.
+    /// Whether the copy of the k-th cell that was won is in Old. Otherwise it is in Aged.
     fn is_won_in_old(&self, k: usize) -> bool
         requires { k < length (walked self.now).won }
         ensures space { result ≡ ((place_in (win_at (walked self.now).won k).word).space == 0) }
         ensures two { (place_in (win_at (walked self.now).won k).word).space < 2 };
 
-    /// The word of the place of a cell: a new one in a space, unless it has one.
+    /// The word of the place of a cell. It is a new place in a space, unless the cell has a place.
     ///
     /// It may be refused with `OutOfMemory`, or with `HeapFull` where the space has no room.
     fn claim(&mut self, cell: u64, space: u64) -> Result<u64, RoomFault>

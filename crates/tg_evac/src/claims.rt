@@ -13,13 +13,13 @@ use std::marker::Model;
 use tg_space::{ForwardingTable, RoomFault};
 use tg_word::{CELLS, OLD, link, place_of};
 
-/// What one collection has claimed: the forwarding word of each cell, and the cells that were won, in order.
+/// What one collection has claimed. It is the forwarding word of each cell, and the cells that were won, in order.
 #[derive(Drop)]
 pub struct Claims {
     plan: Plan,
     /// The forwarding word of each cell, 0 where it has none.
     pub forward: ForwardingTable,
-    // The numbers of the cells that were won, in the order in which they were. A cell's word stands in the table.
+    // The numbers of the cells that were won, in the order in which they were. A cell's word is in the table.
     won: Vec<u64>,
     // The number of the next new cell of Old, and of Aged.
     next: [u64; 2],
@@ -61,7 +61,7 @@ impl Claims {
         })
     }
 
-    // The word of a cell that is moved; where it isn't 0, it is that of the cell's pair.
+    // The word of a cell that is moved. If it isn't 0, it is that of the cell's pair.
     #[inline(always)]
     fn word(&self, cell: u64) -> u64
         requires inside { cell < length self.now.forward }

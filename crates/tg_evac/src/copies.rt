@@ -1,4 +1,4 @@
-//! The scan of won cells: each is copied, and what it names is claimed, until none is left.
+//! The scan of won cells. Each cell is copied, and what it names is claimed, until no cell is left.
 ghost use Rattle.std.specs.Prelude.{◌≡◌, ◌↔◌, ℕ, ◌+◌, ◌<◌, ◌≤◌, ◌-◌, ◌==◌, true, false, [], IfOk, OnOk, length, slice_index_or};
 ghost use Rattle.tg_space.specs.SpaceList.{IsSpace, cells_of};
 ghost use Rattle.tg_space.specs.Targets.{cell_numbered, pointers_of};
@@ -63,7 +63,7 @@ pub struct Copies {
     pub aged: NewBlocks,
     /// Their copies in Old.
     pub old: NewBlocks,
-    /// Blocks whose cells are of no more use: they are filled before new ones are taken.
+    /// Blocks whose cells are of no more use. They are filled before new blocks are taken.
     pub spare: Vec<Block>,
 }
 
@@ -97,7 +97,7 @@ impl Copies {
         })
     }
 
-    // Puts the copy of the cell that is scanned next behind the others of Old or of Aged. What its words name is
+    // Puts the copy of the cell that is scanned next after the others of Old or of Aged. What its words name is
     // claimed.
     #[inline(always)]
     fn push_copy<C: Claimer>(
@@ -125,7 +125,7 @@ impl Copies {
     }
 }
 
-// Some won cells that were read, one behind the other.
+// Some won cells that were read, one after the other.
 #[derive(Drop)]
 struct Ahead {
     words: [[u64; WORDS]; NEAR],
@@ -199,7 +199,7 @@ impl Walk<'_> {
         let mut near = OLD;
         let mut ahead = Ahead::new();
         while next < claimer.len() {
-            // The scan of a cell stands here once, for both ways to read.
+            // The scan of a cell is here once, for both ways to read.
             let words = match self.reads {
                 Reads::Each => self.spaces.words_near(claimer.won_cell(next), &mut near),
                 Reads::Ahead => {

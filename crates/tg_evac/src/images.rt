@@ -1,4 +1,4 @@
-//! The copy of a cell, whose words are moved where they stand. What they name is claimed.
+//! The copy of a cell, whose words are moved in place. What they name is claimed.
 ghost use Rattle.std.specs.Prelude.{◌≡◌, ℕ, ◌≤◌, ◌<◌, drop, get_or, OnOk, IsTrue};
 ghost use Rattle.tg_word.specs.Word.{place_in, rights_in, word_at};
 ghost use Rattle.tg_space.specs.Soundness.{IsPointer};
@@ -33,7 +33,7 @@ impl Walk<'_> {
         }
     }
 
-    // Moves the words of an object. Most objects name nothing, which one test tells.
+    // Moves the words of an object. Most objects name nothing, which one test shows.
     #[inline(always)]
     fn move_object<C: Claimer>(
         self,

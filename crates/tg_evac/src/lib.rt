@@ -1,4 +1,4 @@
-//! A collection: the cells that the roots reach are copied into new blocks.
+//! A collection, which copies the cells that the roots reach into new blocks.
 //!
 //! There are two kinds. A full collection moves all cells to Old, whose new blocks are numbered from 0. A nursery
 //! collection moves the cells of Aged and of the nurseries. Old then keeps its blocks and gets new ones after them, and
@@ -6,8 +6,8 @@
 //!
 //! *Claim.* Each reached cell that is to be moved is won once. It gets the next place of Old or of Aged, and its
 //! forwarding word becomes the link to that place. The pair of the cell and its place is added to the list of won
-//! cells. A cell goes straight to Old in three cases: in a full collection, if it is in Aged, and if it is first met
-//! from a remembered cell or from a cell whose copy is in Old. Any other cell goes to Aged ('Where a copy goes' in
+//! cells. A cell goes straight to Old in a full collection, and if it is in Aged. It also goes to Old if it is first
+//! met from a remembered cell, or from a cell whose copy is in Old. Any other cell goes to Aged ('Where a copy goes' in
 //! docs/inside/ARCHITECTURE.md). A cell that is met again keeps its place.
 //!
 //! *Scan.* First the targets of the roots are claimed, the rows before the remembered cells. Then the won cells are
@@ -30,8 +30,8 @@
 //! ```
 //!
 //! A copy is right when it is made, because a place that was given never changes. Once a cell is scanned, all that it
-//! names has a place. The contracts say so in this way: a copy is right by every map that has the known places, and the
-//! known places only grow. At the end that map is the table of forwarding words.
+//! names has a place. The contracts say that a copy is right by every map that has the known places, and that the known
+//! places only grow. At the end that map is the table of forwarding words.
 //!
 //! *Notes.* At the end the collection notes the cells of Old that will name young cells. These are the remembered cells
 //! that still do, and the copies in Old that name young cells. In the picture it is the copy of m, because o is in Aged
@@ -39,9 +39,9 @@
 //! cell.
 //!
 //! So each live cell that is moved is read once and written once. Of the other cells only remembered cells and cells of
-//! rows are read. A collection takes memory for the new blocks, a word for each cell of from-space, the list of won
-//! cells with room for a word for each cell of from-space, and the notes. Its memory is independent of the number of
-//! references. The memory of a nursery collection is also independent of the cells in Old.
+//! rows are read. A collection takes memory for the new blocks, for the notes, and for a word for each cell of
+//! from-space. The list of won cells also has room for a word for each cell of from-space. Its memory is independent of
+//! the number of references. The memory of a nursery collection is also independent of the cells in Old.
 //!
 //! **Who may call.** The store calls [`collect_one`] with the rows of the heap's workers as roots, and with the
 //! remembered cells in a nursery collection. It hands the result to the heap's graph, which settles there. It may use

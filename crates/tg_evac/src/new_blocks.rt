@@ -35,7 +35,7 @@ pub struct Original<'a> {
 pub struct NewBlocks {
     alloc: Global,
     full: Space,
-    // The cells behind the full blocks. There is room for all of a block.
+    // The cells after the full blocks. There is room for all of a block.
     last: Vec<[u64; WORDS]>,
 }
 
@@ -122,7 +122,7 @@ fn make_room(
     close(alloc, spare, full, last)
 }
 
-// Makes the cells of an open block a full one behind the others, and opens the next.
+// Makes the cells of an open block a full one after the others, and opens the next.
 #[inline(never)]
 fn close(
     alloc: Global,
@@ -158,7 +158,7 @@ fn emptied(block: Block) -> Vec<[u64; WORDS]>
     cells
 }
 
-// These cells, and as many free ones as a block has room for behind them.
+// These cells, and as many free ones as a block has room for after them.
 fn padded(mut cells: Vec<[u64; WORDS]>) -> Result<Vec<[u64; WORDS]>, AllocError>
     requires { IsOpenBlock cells.items }
     ensures cells { IfOk result (λ padded. padded.items ≡ cells.items ++ replicate (CELLS - length cells.items) free_cell) }

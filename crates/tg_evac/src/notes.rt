@@ -80,7 +80,7 @@ impl Made<'_, '_> {
     }
 }
 
-// Notes the cells of these blocks of Old, behind as many other ones, that name young cells.
+// Notes the cells of these blocks of Old, after as many other ones, that name young cells.
 fn note_blocks(remembered: &mut Remembered, blocks: &Space, kept: u64) -> Result<(), AllocError>
     requires { kept + length blocks.now ≤ MOST_SPACE_BLOCKS }
     ensures { OnOk result (AddsNotes (IsYoungIn kept blocks.now) remembered.old.places remembered.new.places) }

@@ -1,4 +1,4 @@
-//! The walk from roots: what they name is claimed, and all that this leads to is copied.
+//! The walk from roots. What they name is claimed, and all that this leads to is copied.
 ghost use Rattle.std.specs.Prelude.{◌≡◌, OnOk, length};
 ghost use Rattle.std.specs.List.{All, Contains};
 ghost use Rattle.tg_space.specs.Soundness.{IsRootIn};
@@ -56,7 +56,7 @@ impl Walk<'_> {
 
     // The won cells are scanned before the targets of the next root are claimed.
     //
-    // The scan stands here once, so that this is small enough to be compiled for each kind and way to read.
+    // The scan is here once, so that this is small enough to be compiled for each kind and way to read.
     #[inline(always)]
     fn each<C: Claimer>(
         self,

@@ -106,7 +106,7 @@ module _ (h : SpaceList) (is : IsSpaceList h) where
       ∙ sym (get_or-flat_of h is.spaces p (holds_from_places h is p (Contains-get_or (places_of h) k nowhere inside)))
       ∙ ap (λ n. get_or (cells_of h) n []) (number_at k nowhere inside))
 
-  -- no object's place stands twice, so neither do numbers that only one object has
+  -- no object's place is there twice, so neither do numbers that only one object has
   objects_distinct : (f : Place → ℕ) → ((p q : Place) → Contains (objects_of h) p → Contains (objects_of h) q → f p ≡ f q → p ≡ q) → IsDistinct eqb (map f (objects_of h))
   objects_distinct f apart =
       let objects = objects_of h in
@@ -170,7 +170,7 @@ payloads_counted h payloads is graph =
     let ge = fewer (used_keys payloads) keys (used_keys-distinct payloads) (λ key has. let (p, object, at) = (graph.payloads_used key).0 (used_key payloads key has) in subst (λ (k : ℕ). Contains keys k) at (Contains-map (key_at h) (objects_of h) p (objects_from_kind h is p object))) in
     omega (arith, length-used_keys payloads, length-map (objects_of h) (key_at h), length-map (objects_of h) (name_at h))
 
--- no name stands twice
+-- no name is there twice
 pub names_once : (h : SpaceList) (payloads : Payloads) → IsSpaceList h → IsGraph h payloads → IsDistinct (λ a b. a == b) (map (name_at h) (objects_of h))
 names_once h payloads is graph =
     objects_distinct h is (name_at h) (λ p q a b e. graph.names p q (kind_from_objects h is p a) (kind_from_objects h is q b) e)

@@ -85,7 +85,7 @@ module _ (h : SpaceList) (aged old : BlockList) where
       by_place (inl at) (inr high) = inr (record { held = held; behind = λ _. high })
       by_place (inl at) (inl low) = inl (record { space = omega arith; block = subst (λ (space : ℕ). q.block < length (space_of h space)) (sym at) low; cell = held.cell }, ap (λ (space : ℕ). from_space Nursery space) at)
 
-  -- a new place is behind the cells that stay
+  -- a new place is after the cells that stay
   pub new_apart : (kind : Kind) (q : Place) → IsNewPlace kind h aged old q → HasCell h q → from_space kind q.space ≡ false → ⊥
   new_apart Full q new held stays = let no : true ≡ false = stays in cc
   new_apart Nursery q new held stays =

@@ -121,7 +121,7 @@ module _ {from : ℕ → Bool} {h after : SpaceList} {to : ℕ → Place} {kept 
     named = name_kept move p keep vertex.object.is ∙ vertex.named;
   }
 
-  -- what the content is, where names tell which vertices are kept
+  -- what the content is, where names show which vertices are kept
   module _ (names : ℕ → Type 0) (are : (x : ℕ) (p : Place) → IsVertexAt h x p → kept p ↔ names x) where
     -- where a vertex was, and where it is
     record Was (x : ℕ) : Type 0 where

@@ -24,7 +24,7 @@ use Rattle.tg_rows.proofs.Members.{Contains-cases, Contains-here, Contains-none,
 use Rattle.tg_rows.proofs.Places.{cell_long, layout_at}
 use Rattle.tg_rows.proofs.Chains.{row_held}
 
--- a root stands for the whole row of an object, or for a remembered cell of Old
+-- a root represents the whole row of an object, or for a remembered cell of Old
 abbrev pub IsWholeRoot : SpaceList → Root → Type 0
 IsWholeRoot h (Row p) = IsKindAt h Object p
 IsWholeRoot h (Remembered p) = IsOldCell h p

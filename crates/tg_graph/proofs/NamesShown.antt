@@ -50,7 +50,7 @@ take_none : {X : Type 0} (n : ℕ) → take {A = X} n [] ≡ []
 take_none zero = refl
 take_none (suc n) = refl
 
--- the next number goes behind those before it, where there is room
+-- the next number goes after those before it, where there is room
 pub shown_more : (numbers room : List ℕ) (x : ℕ) → set (shown_in numbers room) (length numbers) x ≡ shown_in (numbers ++ x ∷ []) room
 shown_more [] [] x = refl
 shown_more [] (r ∷ rs) x = ap (λ (xs : List ℕ). set (xs ++ r ∷ rs) 0 x) (take_none (length (r ∷ rs))) ∙ ap (λ (xs : List ℕ). x ∷ (xs ++ rs)) (sym (take_none (length rs)))
@@ -60,7 +60,7 @@ shown_more (n ∷ ns) (r ∷ rs) x = ap (λ (xs : List ℕ). n ∷ xs) (shown_mo
 -- ---- one cell more
 
 module _ (cells : List (List ℕ)) (n : ℕ) (low : n < length cells) (words : List ℕ) (is : words ≡ get_or cells n []) (count : ℕ) (into room : List ℕ) (counted : count ≡ length (names_of (take n cells))) (shown : into ≡ shown_in (names_of (take n cells)) room) where
-  -- of an object its name comes behind those before it
+  -- of an object its name comes after those before it
   next_object : get_or words 0 0 ≡ 1 → names_of (take (n + 1) cells) ≡ names_of (take n cells) ++ get_or words 1 0 ∷ []
   next_object tag =
       names_more cells n low ∙ ap (λ (xs : List ℕ). names_of (take n cells) ++ xs) (ap (λ (w : List ℕ). names_of (w ∷ [])) (sym is) ∙ names_object words (eq-eqb (get_or words 0 0) 1 tag))

@@ -1,4 +1,4 @@
--- What is decided and changed on a content, and what a collection keeps of it, against the graph that it stands for.
+-- What is decided and changed on a content, and what a collection keeps of it, against the graph that it represents.
 use Rattle.std.proofs.Common.{◌≡◌, ◌↔◌, ◌⊎◌, inl, inr, ⊎_elim, ℕ, ◌<◌, ◌≤◌, ◌==◌, ◌&&◌, Bool, true, false, cond, map, List, [], ◌∷◌, ◌++◌, length, Some, None, refl, sym, ap, ◌∙◌, subst, arith}
 use Rattle.std.proofs.lemmas.Bool.{cond-true, eq-eqb, eqb-true}
 use Rattle.std.specs.List.{Contains}
@@ -70,7 +70,7 @@ module _ (c : Content) (g : ProtectionGraph) (stands : IsContentOf c g) where
 pub IsSameContent-self : (c : Content) → IsSameContent c c
 IsSameContent-self c = record { names = λ x. (λ is. is, λ is. is); labels = λ x y. refl; values = λ x. refl }
 
--- a content that is the same stands for the same graph
+-- a content that is the same represents the same graph
 pub StandsFor-same : (old new : Content) (g : ProtectionGraph) → IsContentOf old g → IsSameContent old new → IsContentOf new g
 StandsFor-same old new g stands same = record {
   made = λ x is. stands.made x ((same.names x).0 is);
@@ -81,7 +81,7 @@ StandsFor-same old new g stands same = record {
 }
 
 module _ (c new : Content) (g : ProtectionGraph) (stands : IsContentOf c g) (x : ℕ) (subject : IsSubject g x) where
-  -- where a command is served, the content that it changes stands for the next graph
+  -- where a command is served, the content that it changes represents the next graph
   pub StandsFor-served : (command : Command) → denial_of c.label c.value x command ≡ None → IsContent new (IsNamed c) (labels_after c.label x command) (values_after c.value command) → IsContentOf new (step g x (Plain command))
   StandsFor-served command none is =
       let allowed = permitted c g stands x command subject none in
@@ -129,7 +129,7 @@ module _ (c new : Content) (g : ProtectionGraph) (stands : IsContentOf c g) (x :
   abbrev made_with : Value → List ℕ → ProtectionGraph
   made_with value subjects = record (with_vertex g x label value) { subjects = subjects }
 
-  -- that content stands for that graph, where nothing else is reached there than before
+  -- that content represents that graph, where nothing else is reached there than before
   content_made : (value : Value) (subjects : List ℕ) → OnlyNamedHold c → IsSound g → IsMadeIn value → ((a : ℕ) → IsReachable (made_with value subjects) a → IsReachable g a ⊎ (a ≡ g.made)) → IsContentOf new (made_with value subjects)
   content_made value subjects only sound is before = record {
     made = λ a named. ⊎_elim (λ old. omega (arith, stands.made a old)) (λ at. omega (arith, at)) ((is.names a).0 named);
@@ -153,7 +153,7 @@ module _ (c new : Content) (g : ProtectionGraph) (stands : IsContentOf c g) (x :
           let is_it = eq-eqb a g.made at in
           cond-true (a == g.made) _ (c.value a) is_it ∙ sym (cond-true (a == g.made) _ (g.value a) is_it)
 
-  -- so it stands for the graph after a create
+  -- so it represents the graph after a create
   pub StandsFor-created : (law : Law) (state : List ℕ) → OnlyNamedHold c → IsSound g → IsSubject g x → g.made < g.limit → IsMadeIn (record { law = law; state = state }) → IsContentOf new (step g x (Create label law state))
   StandsFor-created law state only sound subject room is =
       let next = step-created g x label law state room in
@@ -218,7 +218,7 @@ module _ (c : Content) (g : ProtectionGraph) (stands : IsContentOf c g) (subject
       (λ a b reached edge. goes reached (edge_along c.label g.label a b (sym (stands.labels a b (stands.reachable a (IsReachable-IsReached a reached)))) edge))
 
 module _ (old new : Content) (g : ProtectionGraph) (stands : IsContentOf old g) where
-  -- what is kept stands for the same graph, where all that can be reached is kept
+  -- what is kept represents the same graph, where all that can be reached is kept
   pub StandsFor-kept : (kept : ℕ → Type 0) → KeepsContent old new kept → ((x : ℕ) → IsReachable g x → kept x) → IsContentOf new g
   StandsFor-kept kept keeps all =
       let before : (x : ℕ) → IsNamed new x → IsNamed old x = λ x named. ((keeps.names x).0 named).0 in

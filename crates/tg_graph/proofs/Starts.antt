@@ -79,11 +79,11 @@ all_targets h ps = flat_map (targets_at young_spaces h) ps
 abbrev targets : SpaceList → Place → List ℕ
 targets h p = root_targets_of young_spaces h (Row p)
 
--- a cell of Old that is met, and those behind it
+-- a cell of Old that is met, and those after it
 in_front : (p : Place) (ps : List Place) → young_spaces p.space ≡ false → met (p ∷ ps) ≡ p ∷ met ps
 in_front p ps stays = take_while-cons (λ (q : Place). not (young_spaces q.space)) p ps ∙ ap (λ (b : Bool). cond (not b) (p ∷ met ps) []) stays
 
--- behind a young cell none is met
+-- after a young cell none is met
 at_young : (p : Place) (ps : List Place) → young_spaces p.space ≡ true → met (p ∷ ps) ≡ []
 at_young p ps moves = take_while-cons (λ (q : Place). not (young_spaces q.space)) p ps ∙ ap (λ (b : Bool). cond (not b) (p ∷ met ps) []) moves
 
@@ -100,7 +100,7 @@ met_parts h (p ∷ ps) (suc k) low old =
     ∙ ap (λ (ts : List ℕ). targets_at young_spaces h p ++ ts) (met_parts h ps k (omega arith) (λ j d below. old (suc j) d (omega arith)))
     ∙ sym (append_assoc (targets_at young_spaces h p) (all_targets h (take k ps)) (all_targets h (met (drop k ps))))
 
--- cells that have no target, behind so many
+-- cells that have no target, after so many
 silent_between : (h : SpaceList) (ps : List Place) (i n : ℕ) → i + n ≤ length ps → ((k : ℕ) (d : Place) → i ≤ k → k < i + n → targets_at young_spaces h (get_or ps k d) ≡ []) → all_targets h (take (i + n) ps) ≡ all_targets h (take i ps)
 silent_between h ps i zero low silent = ap (λ k. all_targets h (take k ps)) (omega arith)
 silent_between h ps i (suc n) low silent =

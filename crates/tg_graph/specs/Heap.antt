@@ -106,7 +106,7 @@ ReachAlike kind h roots others = all_root_targets (from_space kind) h others ≡
 abbrev pub reached_by_rows : HeapState → List ℕ
 reached_by_rows s = all_root_targets young_spaces s.table.spaces (map (λ p. Row p) (subject_places s.subjects))
 
--- the root stands for a row from a cell on
+-- the root represents a row from a cell on
 pub record IsRowRoot (h : SpaceList) (root : Root) : Type 0 where
   pub cell : Place
   pub is : root ≡ Row cell
@@ -116,7 +116,7 @@ pub record IsRowRoot (h : SpaceList) (root : Root) : Type 0 where
 abbrev pub NamesRow : SpaceList → ℕ → Type 0
 NamesRow h word = (place_in word).space ≢ 0 → IsRootIn h (Row (place_in word))
 
--- roots of rows came behind others, and these are their young targets
+-- roots of rows came after others, and these are their young targets
 pub record AddsRoots (h : SpaceList) (reached : List ℕ) (roots later : List Root) : Type 0 where
   pub more : List Root
   pub is : later ≡ roots ++ more
@@ -188,8 +188,8 @@ pub record MayAddEdge (s : HeapState) (x : ℕ) (p q : Place) : Type 0 where
   pub from : IsObject s p
   pub to : IsObject s q
 
--- The vertex at one place has rights over the vertex at another: a reference stands in its row, which has an index if it is long, and
--- may have taken a cell from the nursery with a number. Where it is refused nothing is changed, and it is told as a full heap only
+-- The vertex at one place has rights over the vertex at another: a reference is in its row, which has an index if it is long, and may
+-- have taken a cell from the nursery with a number. Where it is refused nothing is changed, and it is reported as a full heap only
 -- where more cells are needed than that nursery has left and gets.
 pub record AddsEdgeFor {A : Type 0} (old new : HeapState) (nursery : ℕ) (from to : Place) (label : RightSet) (result : Result A RoomFault) : Type 0 where
   pub added : OnOk result (AddsRights old new from to label)
@@ -204,14 +204,15 @@ pub record MayMake (s : HeapState) (x name : ℕ) : Type 0 where
   pub worker : IsActive s x
   pub fresh : ¬ IsNamed (content_of s) name
 
--- the new vertex with this name is where it is told, and active subjects, limits and the places of all others are as they were
+-- the new vertex with this name is where it is reported, and active subjects, limits and the places of all others are as they
+-- were
 pub record TellsPlace {E : Type 0} (old new : HeapState) (name : ℕ) (result : Result Place E) : Type 0 where
   pub vertex : IfOk result (IsVertexAt new.table.spaces name)
   pub kept : OnOk result (KeepsPlaces old new)
 
 -- There is a vertex with this name, which stores this value, and the worker's has rights over it. It is the next cell of the nursery
 -- that the worker holds, and the worker's row has an index if it is long. Where it is refused the draft comes back and the heap is as
--- it was, but for room; it is told as a full heap only where more cells are needed than the nursery has left and gets.
+-- it was, but for room; it is reported as a full heap only where more cells are needed than the nursery has left and gets.
 pub record MakesVertexFor {P A : Type 0} (old new : HeapState) (worker name : ℕ) (label : RightSet) (draft : Value) (result : Result A (VertexRefused P)) : Type 0 where
   pub made : OnOk result (AddsVertex old new worker name label draft)
   pub placed : OnOk result (IsMadeInRow old.table new.table old.remembered new.remembered (nursery_space (nursery_of old worker)) worker name label)

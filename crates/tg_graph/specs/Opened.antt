@@ -80,7 +80,7 @@ pub record CanGetBlocks (t : SpaceTable) (n : ℕ) : Type 0 where
   pub spaces : SPACES ≤ length t.spaces
   pub allowed : n ≤ t.limits.max_blocks
 
--- nothing stands in the room yet, and it is enough for so many workers
+-- nothing is in the room yet, and it is enough for so many workers
 pub record IsRoomFor {P : Type 0} (workers : ℕ) (room : Room P) : Type 0 where
   pub payloads : room.cells.payloads.entries ≡ []
   pub spare : workers ≤ room.cells.payloads.spare

@@ -1,4 +1,4 @@
--- When a heap's content stands for a graph, and what a collection may drop.
+-- When a heap's content represents a graph, and what a collection may drop.
 use Rattle.std.specs.Prelude.{◌≡◌, ◌↔◌, ℕ, ◌<◌, List}
 use Rattle.std.specs.List.{Contains}
 use Rattle.tg_model.specs.Graph.{ProtectionGraph, HasEdge, IsReachable}

@@ -63,7 +63,7 @@ impl<P: Payload> Heap<P> {
         ensures well_formed { IsWellFormed self.now }
         ensures table { IsSpaceTable self.now.table }
     {
-        // It tells what holds of all spaces (`IsSpaceTable`).
+        // It shows what holds of all spaces (`IsSpaceTable`).
         let _ = self.cells.spaces.blocks();
         self.subjects.as_slice()
     }
@@ -108,7 +108,7 @@ impl<P: Payload> Heap<P> {
         ensures number { result ≡ length (content_of self.now).names }
         ensures once { IsDistinct (λ a b. a == b) (content_of self.now).names }
     {
-        // It tells what holds of all spaces (`IsSpaceTable`).
+        // It shows what holds of all spaces (`IsSpaceTable`).
         let _ = self.cells.spaces.blocks();
         self.cells.payloads.len()
     }
@@ -134,8 +134,8 @@ impl<P: Payload> Heap<P> {
         &self.cells.payloads
     }
 
-    /// The rights of the vertex at a place over the vertex with a name, and where that one is; `None` exactly where
-    /// there are none. It looks into the index of the row, or walks along a short one. It takes no memory.
+    /// The rights of the vertex at a place over the vertex with a name, and where the target is. It is `None` exactly
+    /// if there are no rights. It looks into the index of the row, or walks along a short one. It takes no memory.
     #[inline(always)]
     pub fn find_edge(&self, from: Place, name: u64) -> Option<Found>
         requires { IsObject self.now from }
@@ -201,9 +201,9 @@ impl<P: Payload> Heap<P> {
     /// empty place, a new chunk gets it, from the nursery of the worker, which has to be an active subject. A cell of
     /// Old that then names a young cell is remembered. If the row has more than four cells, it has an index afterwards.
     ///
-    /// The call is refused with `OutOfMemory` if memory was refused for the block of a chunk, for the note of a cell or
-    /// for the index of the row. It is refused with `HeapFull` if a chunk is needed and the nursery is used up and gets
-    /// no more blocks. After a refusal all is as it was, but there may be room for one more note.
+    /// The call is refused with `OutOfMemory` if memory ran out. The memory is for the block of a chunk, for the note
+    /// of a cell, or for the index of the row. It is refused with `HeapFull` if a chunk is needed and the nursery is
+    /// used up and gets no more blocks. After a refusal all is as it was, but there may be room for one more note.
     pub fn add_edge(
         &mut self,
         worker: u64,
@@ -237,7 +237,7 @@ impl<P: Payload> Heap<P> {
         ensures refused { OnErr result (self.new ≡ self.old) }
         ensures full { result ≡ Err RoomFault.HeapFull → LacksCellsFor self.old.table (nursery_space worker.nursery) 0 (name_of self.old from) (name_of self.old to) }
     {
-        // It tells what holds of all spaces (`IsSpaceTable`).
+        // It shows what holds of all spaces (`IsSpaceTable`).
         let _ = self.cells.spaces.blocks();
         self.cells.add_edge(
             &mut self.rows,
@@ -273,8 +273,9 @@ impl<P: Payload> Heap<P> {
     /// cells, it has an index afterwards.
     ///
     /// The call is refused with `OutOfMemory` if memory was refused. It is refused with `HeapFull` if the vertex and
-    /// its reference need more cells than the nursery of the worker has left, and it gets no more blocks. A refusal
-    /// hands the draft back. All is then as it was, but there may be room for one more payload and one more note.
+    /// its reference need more cells than are left. The nursery of the worker then has too few cells, and gets no more
+    /// blocks. A refusal hands the draft back. All is then as it was, but there may be room for one more payload and
+    /// one more note.
     #[inline(always)]
     pub fn new_vertex(
         &mut self,
@@ -311,7 +312,7 @@ impl<P: Payload> Heap<P> {
         ensures place { TellsPlace self.old self.new name result }
     {
         let subject = self.active(worker);
-        // It tells what holds of all spaces (`IsSpaceTable`).
+        // It shows what holds of all spaces (`IsSpaceTable`).
         let _ = self.cells.spaces.blocks();
         let vertex = NewVertex {
             name,

@@ -1,6 +1,6 @@
-//! Laws of contents alone. A function here does nothing: what it ensures is the law.
+//! Laws of contents alone. A function here does nothing. Its `ensures` is the law.
 //!
-//! The proofs of the crates above cite the lemmas behind them, which stand in `proofs/StandingLaws.antt`.
+//! The proofs of the crates above cite the lemmas from which they follow, which are in `proofs/StandingLaws.antt`.
 ghost use Rattle.std.specs.Prelude.{◌≡◌, ◌↔◌, ℕ};
 ghost use Rattle.tg_model.specs.Graph.{ProtectionGraph, IsReachable};
 ghost use Rattle.tg_space.specs.declared.kind.Kind.{Kind};

@@ -30,11 +30,11 @@ some_bit word i one none = let z : 1 ≡ 0 = sym one ∙ ap (λ x. bit_at x i) n
 pub no_bit : (words : List ℕ) (n : ℕ) → get_or words (n / 64) 0 ≡ 0 → bit_in words n ≡ 0
 no_bit words n none = ap (λ x. bit_at x (n % 64)) none ∙ bit_at-zero (n % 64)
 
--- behind the last word all are 0
+-- after the last word all are 0
 pub word_inside : (words : List ℕ) (w : ℕ) → get_or words w 0 ≢ 0 → w < length words
 word_inside words w some = ⊎_elim (λ low. low) (λ high. absurd (some (get_or_past words w 0 high))) (cases_lt w (length words))
 
--- behind the last word no bit is set
+-- after the last word no bit is set
 pub bit_inside : (words : List ℕ) (n : ℕ) → bit_in words n ≡ 1 → n < 64 * length words
 bit_inside words n here = ⊎_elim (λ low. omega arith) (λ high. absurd (some_bit (get_or words (n / 64) 0) (n % 64) here (get_or_past words (n / 64) 0 high))) (cases_lt (n / 64) (length words))
 
@@ -114,7 +114,7 @@ set_number words n here =
     let at : get_or all n n ≡ n = omega (arith, get_or-range_with_len 0 (64 * length words) n n inside) in
     Contains-filter (λ k. bit_in words k == 1) all n (n, omega (arith, long, inside), at) (eq-eqb (bit_in words n) 1 here)
 
--- each number stands once
+-- each number is once
 pub numbers_once : (words : List ℕ) → AllPairs (λ a b. a ≢ b) (numbers_set words)
 numbers_once words = AllPairs-filter (λ a b. a ≢ b) (λ k. bit_in words k == 1) (range_with_len 0 (64 * length words)) apart
   where
@@ -278,7 +278,7 @@ module _ (words marks : List ℕ) (least : ℕ) (are : AreMarks words marks leas
   longer_exact : (w : ℕ) → (bit_in (marks ++ 0 ∷ []) w ≡ 1) ↔ (get_or words w 0 ≢ 0)
   longer_exact w = (λ is. (are.exact w).0 (sym (bit_same marks w) ∙ is), λ some. bit_same marks w ∙ (are.exact w).1 some)
 
-  -- one more word of marks, behind the first that isn't 0
+  -- one more word of marks, after the first that isn't 0
   pub marks_longer : length words / 64 ≡ length marks → least < length marks → AreMarks words (marks ++ 0 ∷ []) least
   marks_longer full inside = record {
     exact = longer_exact;

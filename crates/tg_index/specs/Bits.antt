@@ -3,7 +3,7 @@ use Rattle.std.specs.Prelude.{◌≡◌, ◌≢◌, ◌↔◌, ◌==◌, ℕ, �
 use Rattle.std.specs.Int.{bit_at}
 use Rattle.std.specs.List.{filter, range_with_len}
 
--- The bit of a number, which is in the set where the bit is 1. Behind the last word all are 0.
+-- The bit of a number, which is in the set where the bit is 1. After the last word all are 0.
 abbrev pub bit_in : List ℕ → ℕ → ℕ
 bit_in words n = bit_at (slice_index words (n / 64)) (n % 64)
 
@@ -35,7 +35,7 @@ pub record IsNextFrom (words : List ℕ) (from n : ℕ) : Type 0 where
   pub behind : from ≤ n
   pub before : (m : ℕ) → from ≤ m → m < n → bit_in words m ≡ 0
 
--- A mark stands at each word that isn't 0, and `least` is the first word of marks that isn't 0, or the number of these words.
+-- A mark is at each word that isn't 0, and `least` is the first word of marks that isn't 0, or the number of these words.
 -- There is a mark for each word, and no word of marks too many. There are at most 2 ^ 32 bits.
 pub record AreMarks (words marks : List ℕ) (least : ℕ) : Type 0 where
   pub exact : (w : ℕ) → (bit_in marks w ≡ 1) ↔ (slice_index words w ≢ 0)

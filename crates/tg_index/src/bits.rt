@@ -7,10 +7,10 @@ use std::alloc::{AllocError, Global};
 /// How many numbers a word has a bit for.
 pub(crate) const BITS: usize = 64;
 
-/// How many words a set may have: its numbers are below 2 ^ 32.
+/// How many words a set may have. Its numbers are below 2 ^ 32.
 pub(crate) const MOST_WORDS: usize = 1 << 26;
 
-/// A set of numbers: each that is in it has its bit set.
+/// A set of numbers. Each number of the set has its bit set.
 #[derive(Drop)]
 pub(crate) struct Bits {
     pub(crate) words: Vec<u64>,

@@ -1,11 +1,11 @@
-//! The hash of a name, by which neighbours stand together.
+//! The hash of a name, by which neighbours are together.
 //!
-//! The table of a map is made of groups of twelve entries. The low bits of a hash choose the group, and eight bits from
-//! bit 24 on, the tag, say which of its entries may be the one that is looked for. Names are given one after the other,
-//! and who has made or used one mostly goes on to the next. So four names that follow one another share a group, which
-//! the processor then has to fetch once, and the last two bits of a name tell them apart in its tag. All above these is
-//! mixed as the kit's own hasher mixes a whole name. So a row of other names is as well spread as it was, whatever
-//! their distance.
+//! The table of a map is made of groups of twelve entries. The low bits of a hash choose the group. Eight bits from bit
+//! 24 on are the tag, which says which of its entries may be the one that is looked for. Names are given one after the
+//! other, and who has made or used one mostly goes on to the next. So four names that follow one another share a group,
+//! which the processor then has to fetch once. The last two bits of a name are in its tag, and distinguish the four
+//! names. All above these is mixed as the kit's own hasher mixes a whole name. So a row of other names is as well
+//! spread as it was, whatever their distance.
 ghost use Rattle.tg_index.specs.Inner.NameHash.{name_hash, name_written};
 
 use std::hash::{BuildHasher, FoldHasher, Hasher};

@@ -1,6 +1,6 @@
-//! A set of numbers: a bit for each, and one above for each word that has a number of the set. So the first one is
-//! found by two looks, a look for the next one passes over 4,096 numbers at a step, and to put a number in or take one
-//! out takes no memory.
+//! A set of numbers. It has a bit for each number, and a bit above for each word that has a number of the set. So the
+//! first number is found by two looks, and a look for the next number passes over 4,096 numbers at a step. To put a
+//! number in or take a number out takes no memory.
 //!
 //! Contracts see the words of the lower bits.
 ghost use Rattle.std.specs.Prelude.{◌≡◌, ℕ, List, ◌*◌, ◌^◌, ◌<◌, ◌≤◌, [], length, None, IfSome, OnOk};
@@ -77,8 +77,7 @@ impl NumberSet {
         self.places.words.len() * BITS
     }
 
-    /// Makes the bit of a place behind all that have one, or answers that there would be too many. Nothing else
-    /// changes.
+    /// Makes the bit of a place after all that have one, or answers that there would be too many. Nothing else changes.
     pub(crate) fn lengthen(&mut self, place: usize) -> Result<(), AllocError>
         requires { place ≤ 64 * length self.old }
         ensures room { OnOk result (place < 64 * length self.new) }

@@ -157,7 +157,7 @@ module _ (g k : ProtectionGraph) (come : HasComeTo g k) where
     },
   )
 
-  -- want of memory for a deed
+  -- lack of memory for a deed
   pub as_before : (new : ProtectionGraph) → IsSameGraph k new → HasComeTo g new
   as_before new before = record {
     sound = come.sound;

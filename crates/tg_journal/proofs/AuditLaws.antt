@@ -31,7 +31,7 @@ module _ (g : ProtectionGraph) (mid new : AuditState) (stands : StandsAt g mid) 
         };
       }
 
-  -- memory is wanting for an entry
+  -- memory runs out for an entry
   pub stays_for_want : IsSameGraph (graph_kept mid.kept) (graph_kept new.kept) → new.found_bad ≡ mid.found_bad → StandsAt g new
   stays_for_want before same = record {
     none_bad = same ∙ stands.none_bad;
@@ -42,7 +42,7 @@ module _ (g : ProtectionGraph) (mid new : AuditState) (stands : StandsAt g mid) 
 pub bad_here : (g : ProtectionGraph) (mid : AuditState) (x : Entry) → StandsAt g mid → (IsLegalEntry (graph_kept mid.kept) x → ⊥) → IsLegalEntry g x → ⊥
 bad_here g mid x stands bad legal = bad ((entry_alike g (graph_kept mid.kept) stands.come x).1 legal)
 
--- memory was wanting before an entry
+-- memory ran out before an entry
 pub stops_for_want : {T : Type 0} (r : Result T AuditFault) (given : AuditFault) (old new : AuditState) (x : Entry) → r ≡ Err given → given ≡ OutOfMemory →
     new.at ≡ old.at → ((g : ProtectionGraph) → StandsAt g old → StandsAt g new) → IfErr r (StopsBefore old new x)
 stops_for_want r given old new x is want at stands = rw (is ∙ ap (λ (e : AuditFault). Err e) want) (at, stands)
@@ -54,7 +54,7 @@ passes_both g front more mid new first second = record {
   next = subst (λ (h : ProtectionGraph). StandsAt h new) (sym (graph_after-append g front more)) second.next;
 }
 
--- the auditor stopped at an entry behind others that passed
+-- the auditor stopped at an entry after others that passed
 pub stopped_behind : (old mid new : AuditState) (es : List Entry) (i : ℕ) (x : Entry) (why : AuditFault) → mid.at ≡ old.at + i → i < length es → slice_get es i ≡ Some x →
     ((g : ProtectionGraph) → StandsAt g old → Passes g (take i es) mid) → StopsBefore mid new x why → IsStopped old new es why
 stopped_behind old mid new es i x OutOfMemory place inside there was is =
@@ -88,7 +88,7 @@ pub on_err : {T E P : Type 0} (r : Result T E) → P → OnErr r P
 on_err (Ok done) p = tt
 on_err (Err error) p = p
 
--- what is told of a whole history, at which the auditor began
+-- what is reported of a whole history, at which the auditor began
 pub fault_of : (g : ProtectionGraph) (old new : AuditState) (es : List Entry) (why : AuditFault) → StandsAt g old → old.at ≡ 0 → IsStopped old new es why → IsAuditFault g es why
 fault_of g old new es OutOfMemory stands first is = tt
 fault_of g old new es (BadEntry at) stands first is =
@@ -99,7 +99,7 @@ pub stays_after : {E : Type 0} (result : Result (Unit {0}) E) (old new : KeptGra
 stays_after (Ok done) old new swept refused g come = swept_alike g (graph_kept old) come (graph_kept new) swept
 stays_after (Err error) old new swept refused g come = subst (λ (k : KeptGraph). HasComeTo g (graph_kept k)) (sym refused) come
 
--- The parts: what stands behind the auditor's place in a part was fed.
+-- The parts: what is after the auditor's place in a part was fed.
 module _ (old new : AuditState) (first : ℕ) (entries : List Entry) (none : old.found_bad ≡ false) (low : first ≤ old.at) (high : old.at ≤ length entries) where
   not_ended : {P : Type 0} → old.found_bad ≡ true → P
   not_ended was = absurd (true≢false (sym was ∙ none))
@@ -118,7 +118,7 @@ module _ (old new : AuditState) (first : ℕ) (entries : List Entry) (none : old
     ended = not_ended;
   }
 
-  -- memory was wanting
+  -- memory ran out
   pub part_wanting : FeedsEntries old new (drop old.at entries) (Err OutOfMemory) → FeedsPart old new first entries (Err (part.OutOfMemory new.at))
   part_wanting fed = record {
     passed = λ _ _. tt;

@@ -3,12 +3,12 @@ use Rattle.std.proofs.Common.{◌≡◌, ℕ, ◌+◌, ◌-◌, ◌≤◌, List,
 use Rattle.std.proofs.lemmas.List.{drop-drop}
 use Rattle.std.proofs.Math.Seq.{drop-append-add}
 
--- what stands behind a place of the later list stands behind it in the whole
+-- what is after a place of the later list is after it in the whole
 pub drop-behind : {X : Type 0} (past items : List X) (base start : ℕ) → base ≡ length past → base ≤ start → drop (start - base) items ≡ drop start (past ++ items)
 drop-behind past items base start is le =
     sym (drop-append-add past items (start - base)) ∙ ap (λ (n : ℕ). drop n (past ++ items)) (let e : length past + (start - base) ≡ start = omega (arith, is, le) in e)
 
--- what is held behind so many is taken whole
+-- what is held after so many is taken whole
 all_behind : {X : Type 0} (held : List X) (passed : ℕ) → take (length held - passed) (drop passed held) ≡ drop passed held
 all_behind held passed = take_all (length held - passed) (drop passed held) (omega (arith, length-drop passed held))
 

@@ -21,7 +21,7 @@ use Rattle.tg_journal.specs.Live.{NamesFrom, at_name, label_between, value_of}
 
 -- ---- lists of some vertices
 
--- what the vertices of some names have, one behind the other
+-- what the vertices of some names have, one after the other
 abbrev pub among : {X : Type 0} → (Vertex → List X) → (ℕ → Bool) → List Vertex → List X
 among of names [] = []
 among of names (v ∷ vs) = cond (names v.name) (of v ++ among of names vs) (among of names vs)
@@ -199,7 +199,7 @@ module _ (names : ℕ → Bool) where
 
 -- ---- lists that grow
 
--- one more behind those that were put behind others
+-- one more after those that were put after others
 pub put_behind : {X : Type 0} (old more : List X) (x : X) (next mid new : List X) → mid ≡ old ++ more → new ≡ mid ++ x ∷ [] → next ≡ more ++ x ∷ [] → new ≡ old ++ next
 put_behind old more x next mid new was pushed is =
     pushed ∙ ap (λ xs. xs ++ x ∷ []) was ∙ append_assoc old more (x ∷ []) ∙ ap (λ xs. old ++ xs) (sym is)

@@ -50,7 +50,7 @@ gap_tail v vs x i gap = record {
   greater = λ j from inside. gap.greater (suc j) (omega (arith, from)) (omega (arith, inside));
 }
 
--- behind the last name
+-- after the last name
 pub gap_behind : (vs : List Vertex) (x last : ℕ) → NamesFrom 0 vs → last + 1 ≡ length vs → vertex_name_at vs last < x → IsGap vs x (length vs)
 gap_behind vs x last rise is less = record {
   inside = omega arith;

@@ -50,7 +50,7 @@ abbrev pub AuditAnswers : ProtectionGraph → ℕ → Deed → AuditState → Au
 AuditAnswers g x deed old new (Some reply) = Passes g (record { worker = x; deed = deed; reply = reply } ∷ []) new × (new.at ≡ old.at + 1)
 AuditAnswers g x deed old new None = (¬ (IsSubject g x × DeedFits deed)) × StandsAt g new × (new.at ≡ old.at)
 
--- The auditor stopped at its new place, among these entries. Those before it passed. Where memory was wanting, it goes on from there;
+-- The auditor stopped at its new place, among these entries. Those before it passed. Where memory ran out, it goes on from there;
 -- otherwise the entry there is the first bad one.
 abbrev pub IsStopped : AuditState → AuditState → List Entry → AuditFault → Type 0
 IsStopped old new es OutOfMemory = (old.at ≤ new.at) × (new.at < old.at + length es) ×

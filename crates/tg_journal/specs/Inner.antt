@@ -1,3 +1,3 @@
--- What private calls promise. No public clause cites it: who wants to believe the audit needn't read it.
+-- What private calls promise. No public clause cites it: a reader who checks the audit needn't read it.
 pub mod Steps
 pub mod Showing

@@ -27,12 +27,12 @@ NamesFrom n (v ∷ vs) = (n ≤ v.name) × NamesFrom (v.name + 1) vs
 abbrev pub vertex_name_at : List Vertex → ℕ → ℕ
 vertex_name_at vs i = (slice_index_or vs i (record { name = 0; row = []; value = None })).name
 
--- the vertex of the name x stands at place i
+-- the vertex of the name x is at place i
 pub record HasVertexAt (vs : List Vertex) (x i : ℕ) : Type 0 where
   pub inside : i < length vs
   pub name : vertex_name_at vs i ≡ x
 
--- it would go there: smaller names stand before that place, and greater ones from it on
+-- it would go there: smaller names are before that place, and greater ones from it on
 pub record IsGap (vs : List Vertex) (x i : ℕ) : Type 0 where
   pub inside : i ≤ length vs
   pub smaller : (j : ℕ) → j < i → vertex_name_at vs j < x
@@ -55,7 +55,7 @@ pub record AuditState : Type 0 where
   pub at : ℕ
   pub found_bad : Bool
 
--- where memory was wanting for a deed: as before, but for what names store that weren't made yet
+-- where memory ran out for a deed: as before, but for what names store that weren't made yet
 pub record IsSameGraph (old new : ProtectionGraph) : Type 0 where
   pub subjects : new.subjects ≡ old.subjects
   pub made : new.made ≡ old.made

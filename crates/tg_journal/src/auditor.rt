@@ -24,7 +24,7 @@ use thiserror::Error;
 #[derive(Drop)]
 pub struct Auditor {
     graph: LiveGraph,
-    // How many entries passed: the place of the next.
+    // How many entries passed, which is the place of the next.
     at: u64,
     // Whether the entry at that place is bad. Then no more is replayed: the graph is of no history.
     found_bad: bool,
@@ -73,7 +73,7 @@ impl Auditor {
         })
     }
 
-    /// How many entries passed: the place of the next.
+    /// How many entries passed, which is the place of the next.
     pub fn at(&self) -> u64
         ensures { result ≡ self.now.at }
     {
@@ -109,7 +109,8 @@ impl Auditor {
     /// place after them. Otherwise the entries before [`Auditor::at`] passed. `BadEntry` has that place in the whole
     /// history. After `OutOfMemory` the auditor can be fed again from there. `OutOfMemory` is returned too after 2^64 -
     /// 1 entries, because the next has no place. The auditor [sweeps](Auditor::sweep) by itself if it has a quarter as
-    /// many vertices again as the last sweep left, and 65,536 at least, unless nothing could be forgotten.
+    /// many vertices again as the last sweep left. It needs at least 65,536 vertices, and doesn't sweep if nothing
+    /// could be forgotten.
     pub fn feed_entries(&mut self, entries: &[Entry]) -> Result<(), AuditFault>
         ensures fed { FeedsEntries self.old self.new entries.now result }
         ensures ended { IsEnded self.old self.new result }
@@ -174,8 +175,8 @@ impl Auditor {
         Ok(Some(reply))
     }
 
-    /// Forgets all vertices that no subject reaches: no later entry can depend on them. The
-    /// audit stays where it has come. Fails only when out of memory, and nothing is then forgotten.
+    /// Forgets all vertices that no subject reaches. No later entry can depend on them. The audit stays where it has
+    /// come. Fails only when out of memory, and nothing is then forgotten.
     pub fn sweep(&mut self) -> Result<(), AllocError>
         ensures stays { (g : ProtectionGraph) → StandsAt g self.old → StandsAt g self.new }
         ensures place { (self.new.at ≡ self.old.at) × (self.new.found_bad ≡ self.old.found_bad) }
@@ -186,7 +187,7 @@ impl Auditor {
     }
 
     // Sweeps where there are a quarter as many vertices again as the last sweep left, unless nothing was given up
-    // since. Want of memory for it stops no audit: the next one comes where there are a quarter as many again.
+    // since. Lack of memory for it stops no audit: the next one comes where there are a quarter as many again.
     fn sweep_where_due(&mut self)
         ensures stays { (g : ProtectionGraph) → StandsAt g self.old → StandsAt g self.new }
         ensures place { (self.new.at ≡ self.old.at) × (self.new.found_bad ≡ self.old.found_bad) }

@@ -1,9 +1,9 @@
-//! Laws of histories, each over every graph and every list of entries. A function here does nothing: what it ensures is
+//! Laws of histories, each over every graph and every list of entries. A function here does nothing. Its `ensures` is
 //! the law.
 //!
-//! The proofs of the crates above cite the lemmas behind the laws, which stand in `proofs/HistoryLaws` (histories cut,
-//! joined and extended, what they keep and what they leave), `proofs/NameLaws`, `proofs/Decided` and
-//! `proofs/Edition1Laws`.
+//! The proofs of the crates above cite the lemmas from which the laws follow. The lemmas are in `proofs/HistoryLaws`,
+//! `proofs/NameLaws`, `proofs/Decided` and `proofs/Edition1Laws`. `HistoryLaws` has histories that are cut, joined and
+//! extended, what they keep and what they leave.
 ghost use Rattle.std.specs.Prelude.{◌≡◌, ◌↔◌, ◌⊎◌, ◌<◌, ◌≤◌, ℕ, List, [], ◌∷◌, ◌++◌, map, take, slice_get, Some, IfSome};
 ghost use Rattle.tg_model.specs.Graph.{ProtectionGraph, IsSubject, IsReachable, IsSound};
 ghost use Rattle.tg_model.specs.Opened.{Plan, IsPlan, ValueFits, start_of};
@@ -109,7 +109,7 @@ pub fn where_subjects_reach_is_enough()
         HasComeTo g kept → IsLegalEntry kept e ↔ IsLegalEntry g e }
 {}
 
-/// What no subject reaches may be forgotten: the graph stays alike where subjects reach.
+/// What no subject reaches may be forgotten, because the graph stays alike where subjects reach.
 pub fn the_unreached_may_be_forgotten()
     ensures { (g kept swept : ProtectionGraph) → HasComeTo g kept → IsSweptGraph kept swept → HasComeTo g swept }
 {}

@@ -8,7 +8,7 @@ use crate::entry::Entry;
 use std::marker::Model;
 use tg_snapshot::Snapshot;
 
-/// The entries that a journal no longer has in memory. Only clauses read them: it takes no memory, and nothing is done
+/// The entries that a journal no longer has in memory. Only clauses read them. It takes no memory, and nothing is done
 /// at run time.
 #[derive(Drop)]
 pub(crate) struct Past {

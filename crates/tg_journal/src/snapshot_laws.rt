@@ -1,4 +1,4 @@
-//! Laws of snapshots, and of histories that go on from one. A function here does nothing: what it ensures is the law.
+//! Laws of snapshots, and of histories that go on from one. A function here does nothing. Its `ensures` is the law.
 ghost use Rattle.std.specs.Prelude.{◌↔◌, ◌<◌, ◌≤◌, ◌++◌, ℕ, List};
 ghost use Rattle.tg_model.specs.Graph.{ProtectionGraph, IsSubject, IsSound};
 ghost use Rattle.tg_model.specs.Opened.{Plan, IsPlan, start_of};
@@ -23,9 +23,9 @@ pub fn alike_graphs_have_the_same_histories()
         HasComeTo (graph_after g es) (graph_after kept es) }
 {}
 
-/// From a snapshot a history goes on as it would have gone on from the first graph. Later entries are legal exactly if
-/// they would have been legal there, and each later reply is the one that would have been given there. The first graph
-/// may be that of an opening, or one that a snapshot before shows.
+/// A history that goes on from a snapshot is the history that would have come from the first graph. Later entries are
+/// legal exactly if they would have been legal there, and each later reply is the one that would have been given there.
+/// The first graph may be that of an opening, or one that a snapshot before shows.
 pub fn histories_go_on_from_a_snapshot()
     ensures sound { (first : ProtectionGraph) (front : List Entry) (p : Saved) →
         IsSound first → IsSnapshotAfter first front p → Continues first front (graph_shown p) }
@@ -65,8 +65,8 @@ pub fn a_part_is_audited_alone()
         Passes (graph_shown p) es a }
 {}
 
-/// Three kinds of graph have a snapshot: the graph that an opening starts from, one that a snapshot shows, and each
-/// graph after a legal history of such a graph.
+/// Three kinds of graph have a snapshot. They are the graph that an opening starts from, a graph that a snapshot shows,
+/// and each graph after a legal history of such a graph.
 pub fn graphs_can_be_saved()
     ensures opened { (plan : Plan) → IsPlan plan → CanBeSaved (start_of plan) }
     ensures shown { (p : Saved) → IsSnapshot p → CanBeSaved (graph_shown p) }

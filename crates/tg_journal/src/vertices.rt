@@ -112,8 +112,8 @@ impl Vertices {
         Ok(())
     }
 
-    /// Writes to what a vertex stores, by its law; where it stores nothing, nothing changes. Where memory is refused
-    /// all is as it was.
+    /// Writes to what a vertex stores, by its law. If it stores nothing, nothing changes. Where memory is refused all
+    /// is as it was.
     pub(crate) fn write(&mut self, alloc: Global, name: u64, value: u64) -> Result<(), AllocError>
         ensures { Changes self.old self.new (label_between self.old) (written_at (value_of self.old) name value) result }
     {
@@ -125,7 +125,8 @@ impl Vertices {
         Ok(())
     }
 
-    /// Gives one vertex rights over another: widens the edge, or makes one. Where memory is refused all is as it was.
+    /// Gives one vertex rights over another. It widens the edge, or makes an edge. Where memory is refused all is as it
+    /// was.
     pub(crate) fn add(
         &mut self,
         alloc: Global,
@@ -169,7 +170,7 @@ impl Vertices {
         self.items.retain(|vertex| names.contains(&vertex.name));
     }
 
-    // Where the vertex of a name stands, or where it would go.
+    // Where the vertex of a name is, or where it would go.
     fn place(&self, name: u64) -> Result<usize, usize>
         ensures { FindsPlace self.now name result }
     {
@@ -179,7 +180,7 @@ impl Vertices {
         }
     }
 
-    // Where the vertex of a name stands, as far as the first and the last name tell.
+    // Where the vertex of a name is, as far as the first and the last name show.
     fn guess(&self, name: u64) -> Option<usize>
         ensures { IfSome result (HasVertexAt self.now name) }
     {
@@ -206,7 +207,7 @@ impl Vertices {
         }
     }
 
-    // Where the vertex of a name stands, or where it would go, found by halves.
+    // Where the vertex of a name is, or where it would go, found by halves.
     fn search(&self, name: u64) -> Result<usize, usize>
         ensures { FindsPlace self.now name result }
     {

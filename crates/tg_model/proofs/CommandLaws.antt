@@ -13,7 +13,7 @@ parts-same (Take rights y z) (Take others v w) first second = cc
 parts-same c (Take rights y z) first second = cc
 parts-same c d first second = cc
 
--- the bytes of a word stand behind the space, and there are few
+-- the bytes of a word are after the space, and there are few
 pub plain_word : (v : Verb) → (list_all (λ b. nat_lt 32 b) (word_of v) && nat_lt (length (word_of v)) 20) ≡ true
 plain_word verb.Take = refl
 plain_word v = refl

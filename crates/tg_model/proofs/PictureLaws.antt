@@ -57,7 +57,7 @@ still : (t : Bool) (m r : RightSet) (q : Right) → has m q ≡ true → has (co
 still true m r q h = of_union m r q h
 still false m r q h = h
 
--- what stood there stands there with more rights too
+-- what stood there is there with more rights too
 pub Holds-still : (label : ℕ → ℕ → RightSet) (p q : ℕ) (rights : RightSet) (a : ℕ) (right : Right) (b : ℕ) → Holds label a right b → Holds (with_rights label p q rights) a right b
 Holds-still label p q rights a right b h = still ((a == p) && (b == q)) (label a b) rights right h
 
@@ -122,7 +122,7 @@ row_stands p es from plain row is all b q h =
     all_listed ((graph_of p).label from) (StandsIn es from) (graph_of p).made 0 b (subst (All (StandsIn es from)) is all) (omega arith) (omega (arith, below))
     (Holds-edge ((graph_of p).label from b) q h) q h
 
--- one edge more of a row stands in the list
+-- one edge more of a row is in the list
 pub row_more : (es new : List Edge) (from : ℕ) (shown : List (ℕ × RightSet)) (i : ℕ) (x : ℕ × RightSet) → new ≡ es ++ record { from = from; to = x.0; label = x.1 } ∷ [] → i < length shown → x ≡ get_or shown i x → AllWithin (StandsIn es from) shown 0 i → AllWithin (StandsIn new from) shown 0 (i + 1)
 row_more es new from shown i x is inside here all =
     let e : Edge = record { from = from; to = x.0; label = x.1 } in

@@ -1,4 +1,4 @@
--- The table of commands: what each asks for, by which word, and what stands behind the word.
+-- The table of commands: what each asks for, by which word, and what is after the word.
 use Rattle.std.specs.Prelude.{ℕ, List, codes}
 use Rattle.tg_model.specs.declared.command.Command.{Command}
 use Rattle.tg_model.specs.declared.command.Command.TheVariants.{Take, Grant, Remove, Read, Write, Append, Inspect, List as Listing, Retire}
@@ -21,7 +21,7 @@ word_of verb.Inspect = codes "inspect"
 word_of verb.List = codes "list"
 word_of verb.Retire = codes "retire"
 
--- what a command asks for, and what stands behind the word
+-- what a command asks for, and what is after the word
 abbrev pub verb_and_arguments : Command → Verb × Arguments
 verb_and_arguments (Take rights y z) = (verb.Take, behind.Move y z rights)
 verb_and_arguments (Grant rights y z) = (verb.Grant, behind.Move y z rights)

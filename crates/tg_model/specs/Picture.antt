@@ -35,7 +35,7 @@ pub record IsPictureOf (p : Shown) (g : ProtectionGraph) : Type 0 where
 abbrev pub with_edge : ProtectionGraph → ℕ → ℕ → RightSet → ProtectionGraph
 with_edge g a b rights = record g { label = with_rights g.label a b rights }
 
--- each right of an edge of a row stands in the list, on the edge of this vertex
+-- each right of an edge of a row is in the list, on the edge of this vertex
 abbrev pub StandsIn : List Edge → ℕ → ℕ × RightSet → Type 0
 StandsIn edges from edge = (right : Right) → has edge.1 right ≡ true → Holds (label_in edges) from right edge.0
 

@@ -1,4 +1,4 @@
-//! Why commands are denied, told of any form of a graph that knows its labels and its logs.
+//! Why commands are denied, for any form of a graph that knows its labels and its logs.
 ghost use Rattle.std.specs.Prelude.{◌≡◌, ◌==◌};
 ghost use Rattle.std.specs.Option.{option_or};
 ghost use Rattle.tg_model.specs.Rules.{unless_distinct, unless_held, unless_log, denial_of};
@@ -7,7 +7,8 @@ use crate::command::Command;
 use crate::reply::{Cause, Denial, Rule};
 use tg_rights::{Label, Right, Rights};
 
-/// A graph in some form, as far as a denial looks at it: the rights of one vertex over another, and who stores a log.
+/// A graph in some form, as far as a denial looks at it. It has the rights of one vertex over another, and which vertex
+/// stores a log.
 pub trait Labelled {
     ghost use Rattle.std.specs.Prelude.{◌≡◌, ℕ, Option};
     ghost use Rattle.tg_rights.specs.RightSet.{RightSet};
@@ -101,7 +102,7 @@ fn unless_granted<G: Labelled>(
     first_of(unless_distinct(Rule::Grant, same), held)
 }
 
-// Why a command is denied that wants only rights of the worker over its target.
+// Why a command is denied that needs only rights of the worker over its target.
 fn unless_used<G: Labelled>(
     graph: &G,
     rule: Rule,
@@ -117,7 +118,7 @@ fn unless_used<G: Labelled>(
     )
 }
 
-// A denial where a log is wanted and something else is stored.
+// The denial of a command that needs a log, if the target stores no log.
 fn unless_log<G: Labelled>(graph: &G, rule: Rule, target: u64) -> Option<Denial>
     ensures { result ≡ unless_log rule (G.value graph.now target) }
 {

@@ -1,4 +1,4 @@
-//! Pictures: a graph without what its vertices store, as a list of edges.
+//! Pictures. A picture is a graph without what its vertices store, as a list of edges.
 ghost use Rattle.std.specs.Prelude.{◌≡◌, ◌<◌, IfOk};
 ghost use Rattle.tg_model.specs.Graph.{ProtectionGraph};
 ghost use Rattle.tg_model.specs.Picture.{IsPictureOf, with_edge};
@@ -8,8 +8,8 @@ use std::alloc::AllocError;
 use std::marker::Model;
 use tg_rights::Label;
 
-/// A graph without what its vertices store: its active subjects, its edges, how many vertices were ever made, and the
-/// most that may be. Contracts see it as the record of these, `Shown`.
+/// A graph without what its vertices store. It has its active subjects, its edges, how many vertices were ever made,
+/// and the most that may be. Contracts see it as the record of these, `Shown`.
 #[derive(Drop)]
 pub struct Picture {
     subjects: Vec<u64>,
@@ -27,8 +27,8 @@ impl Model for Picture {
 }
 
 impl Picture {
-    /// The picture of these parts. Whoever hands them in says of which graph they are: of two edges of one pair it has
-    /// the union of the labels. Takes no memory.
+    /// The picture of these parts. The caller says of which graph they are. If two edges have the same ends, the graph
+    /// has the union of their labels. Takes no memory.
     pub fn new(subjects: Vec<u64>, edges: Vec<Edge>, made: u64, limit: u64) -> Picture
         ensures { result ≡ record { subjects = subjects.items; edges = edges.items; made = made; limit = limit } }
     {

@@ -1,4 +1,4 @@
-//! The table of commands: what may be asked for, by which word, and what stands behind the word.
+//! The table of commands. It has what may be asked for, by which word, and what comes after the word.
 ghost use Rattle.std.specs.Prelude.{◌≡◌, ◌↔◌, IsTrue};
 ghost use Rattle.std.specs.Str.{bytes_eq};
 ghost use Rattle.tg_model.specs.Commands.{word_of as word_told};

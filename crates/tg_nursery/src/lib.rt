@@ -12,8 +12,8 @@
 //! A block is the last thing that a call asks for ('Growth comes first' in docs/inside/ARCHITECTURE.md).
 //!
 //! So the cell is free, it wasn't handed out since the nursery was last emptied, and no other cell changes. The caller
-//! is the heap's graph. The contract gives it two views of a success: the exact table that is left, and that a fresh
-//! cell was allocated.
+//! is the heap's graph. The contract gives it two views of a success. They are the exact table that is left, and that a
+//! fresh cell was allocated.
 #![tactic(auto)]
 
 ghost use Rattle.std.specs.Prelude.{◌≡◌, ◌<◌, ◌≤◌, ◌*◌, ◌↔◌, Err, IfOk, IsOk, OnOk, OnErr, length};

@@ -28,7 +28,7 @@ memory_least [] c fault made other = other
 memory_least (Ok p ∷ parts) c fault made other = memory_least parts c fault made other
 memory_least (Err why ∷ parts) c fault made other = absurd made
 
--- a fault of the least stays it behind more parts
+-- a fault of the least stays it after more parts
 still_least : (parts : List (Result Part RoomFault)) (next : Result Part RoomFault) (fault : RoomFault) → IsFaultOfLeast parts fault → IsFaultOfLeast (parts ++ next ∷ []) fault
 still_least [] (Ok p) fault least = least
 still_least [] (Err why) fault least = inr least

@@ -317,7 +317,7 @@ module _ (used : ℕ) (b : OwnBlocks) (ready : IsSeatReady used b) where
 pub places_left : (used : ℕ) (b : OwnBlocks) → LeavesPlaces used b → used ≤ 64 * length b.numbers.items → b.next ≢ b.end → used < 64 * length b.numbers.items
 places_left used b left room some = omega arith
 
--- the place behind another one in its block
+-- the place after another one in its block
 abbrev place_behind : Place → Place
 place_behind p = record { space = p.space; block = p.block; cell = p.cell + 1 }
 
@@ -325,7 +325,7 @@ place_behind p = record { space = p.space; block = p.block; cell = p.cell + 1 }
 word_behind : (p : Place) → link_to (place_behind p) ≡ link_to p + 2 ^ 8
 word_behind p = omega arith
 
--- after one more win the next place is the one behind, where some are left
+-- after one more win the next place is the one after, where some are left
 module _ (used : ℕ) (b : OwnBlocks) (next : ℕ) (ready : IsSeatReady used b) (on : next ≡ link_to (place_behind (place_in b.next))) where
   abbrev after : OwnBlocks
   after = record { aged = b.aged; numbers = b.numbers; next = next; end = b.end; is_past = b.is_past }

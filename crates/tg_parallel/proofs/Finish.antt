@@ -1,4 +1,4 @@
--- What one record that stands for all has won is a collection, where it is complete and its table was closed.
+-- What one record that represents all has won is a collection, where it is complete and its table was closed.
 use Rattle.std.proofs.Common.{◌≡◌, ◌≢◌, ℕ, ◌+◌, ◌-◌, ◌/◌, ◌^◌, ◌<◌, ◌≤◌, ◌==◌, if◌then◌else◌, nat_lt, List, [], ◌∷◌, Bool, true, false, IsTrue, length, get_or, map, refl, sym, ap, subst, ◌∙◌, eqb-true, ⊎_elim, arith}
 use Rattle.std.specs.List.{All, Contains}
 use Rattle.std.proofs.lemmas.Bool.{cases_lt, cases_eq, and_parts}
@@ -73,7 +73,7 @@ module _ (space start : ℕ) (copy : ℕ → List ℕ) (won : List (ℕ × Place
       let is = (numbers.exactly n).0 held in let from = is.0 in let below = is.1 in let long = sorted_long in
       (from, omega arith)
 
-  -- the block with a number stands at its place
+  -- the block with a number is at its place
   sorted_is : (n : ℕ) (found : (b : ℕ × List (List ℕ)) × Contains blocks b × (b.0 ≡ n)) → get_or sorted (n - start) [] ≡ found.0.1
   sorted_is n found = ap (λ (m : ℕ). get_or sorted (m - start) []) (sym found.2) ∙ All-contains (λ (b : ℕ × List (List ℕ)). get_or sorted (b.0 - start) [] ≡ b.1) blocks found.0 order.each found.1
 

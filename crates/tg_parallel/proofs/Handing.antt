@@ -1,4 +1,4 @@
--- What a helper hands over: its copies stand in its blocks, each block with its number, which it has once.
+-- What a helper hands over: its copies are in its blocks, each block with its number, which it has once.
 use Rattle.std.proofs.Common.{◌≡◌, ◌≢◌, ℕ, ◌+◌, ◌*◌, ◌/◌, ◌%◌, ◌^◌, ◌<◌, ◌≤◌, ◌==◌, ◌⊎◌, List, [], ◌∷◌, Bool, true, false, length, get_or, take, map, refl, sym, ap, subst, ◌∙◌, inl, inr, ⊎_elim, arith, nat_lt, Result, Ok, Err}
 use Rattle.std.specs.List.{All, Contains, list_all}
 use Rattle.std.specs.Result.{IfOk, OnOk}
@@ -31,7 +31,7 @@ use Rattle.tg_parallel.proofs.Seating.{wins_in}
 
 -- ---- blocks with their numbers
 
--- a cell of the i-th block, where free blocks stand behind the last
+-- a cell of the i-th block, where free blocks are after the last
 pub laid_cell : (cells : List (List ℕ)) (blocks : BlockList) → HoldCells cells blocks → All IsBlock blocks → (i j : ℕ) → j < 64 → cell_of (get_or blocks i free_block) j ≡ get_or cells (64 * i + j) free_cell
 laid_cell cells blocks hold are i j inside = ⊎_elim
     (λ (low : i < length blocks).
@@ -51,7 +51,7 @@ are_laid_out cells numbers blocks laid hold are same each = record {
   stand = λ i j low inside. ap (λ (b : List (List ℕ)). cell_of b j) (each i low) ∙ laid_cell cells blocks hold are i j inside;
 }
 
--- the numbers of a helper's own blocks, which rise, stand once
+-- the numbers of a helper's own blocks, which rise, are once
 filled_once : (aged : Bool) (v : Record) (numbers : List ℕ) (used : ℕ) → AreFilled aged v numbers used → AreOnce (blocks_of aged v)
 filled_once aged v numbers used filled = subst (λ (l : List ℕ). AreOnce l) filled.same
     (once_differ numbers (λ i j d lt low e. (

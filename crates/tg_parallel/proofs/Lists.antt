@@ -1,4 +1,4 @@
--- Facts on lists: what one has, and numbers that stand once.
+-- Facts on lists: what one has, and numbers that are once.
 use Rattle.std.proofs.Common.{◌≡◌, ◌≢◌, ℕ, zero, suc, ◌+◌, ◌-◌, ◌*◌, ◌/◌, ◌<◌, ◌≤◌, ◌==◌, ◌||◌, ◌++◌, if◌then◌else◌, List, [], ◌∷◌, Bool, true, false, length, get_or, take, drop, refl, sym, ap, subst, ◌∙◌, eqb-true, ⊎_elim, arith}
 use Rattle.std.specs.List.{All, AllPairs, Contains, list_any, flat_map}
 use Rattle.std.proofs.lemmas.Bool.{false≢true}
@@ -97,7 +97,7 @@ module _ (xs ys : List ℕ) (once : AreOnce (xs ++ ys)) where
   pub once_apart : (n : ℕ) → 0 < weigh (one_at n) xs → 0 < weigh (one_at n) ys → ⊥
   once_apart n left right = absurd (let o = once n in omega (arith, weigh-append (one_at n) xs ys))
 
--- numbers that differ stand once
+-- numbers that differ are once
 pub once_differ : (xs : List ℕ) → AllPairs (λ m n. m ≢ n) xs → AreOnce xs
 once_differ [] apart n = omega arith
 once_differ (x ∷ xs) apart n = go (x == n) refl (once_differ xs (λ i j d lt low. apart (suc i) (suc j) d (omega arith) (omega arith)) n)

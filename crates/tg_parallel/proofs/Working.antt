@@ -167,7 +167,7 @@ drawn_first s t r none is = record {
   before_last = All-nil (λ (c : ℕ). is_chunk t.board.counts c ≡ true);
 }
 
--- each chunk is claimed behind the one before
+-- each chunk is claimed after the one before
 pub rises : (before : List ℕ) (chunk : ℕ) (s u : Sitting) (r : ℕ) → HasDrawn before chunk s → u.done.chunks ≡ s.done.chunks → All (λ c. c < r) u.done.chunks → chunk < r
 rises before chunk s u r drawn chunks all =
     All-contains (λ (c : ℕ). c < r) u.done.chunks chunk all (subst (λ (l : List ℕ). Contains l chunk) (sym (chunks ∙ drawn.is)) (Contains-push before chunk))

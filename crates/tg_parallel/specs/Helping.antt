@@ -28,7 +28,7 @@ pub record IsOneOf (a b c : Part) : Type 0 where
   pub old : c.old.items ≡ a.old.items ++ b.old.items
   pub left : c.left.items ≡ a.left.items ++ b.left.items
 
--- all that two parts have, or a fault: that of one of the two, or want of memory
+-- all that two parts have, or a fault: that of one of the two, or lack of memory
 abbrev pub IsOfBoth : Result Part RoomFault → Result Part RoomFault → Result Part RoomFault → Type 0
 IsOfBoth (Ok a) (Ok b) (Ok c) = IsOneOf a b c
 IsOfBoth (Ok a) (Ok b) (Err fault) = fault ≢ HeapFull
@@ -37,7 +37,7 @@ IsOfBoth (Ok a) (Err why) (Err fault) = fault ≡ why
 IsOfBoth (Err why) b (Ok c) = ⊥
 IsOfBoth (Err why) b (Err fault) = fault ≡ why
 
--- The fault is that of the first of these parts that has one, or else want of memory in putting the parts together.
+-- The fault is that of the first of these parts that has one, or else lack of memory in putting the parts together.
 abbrev pub IsFaultOfLeast : List (Result Part RoomFault) → RoomFault → Type 0
 IsFaultOfLeast [] fault = fault ≢ HeapFull
 IsFaultOfLeast (Ok part ∷ parts) fault = IsFaultOfLeast parts fault

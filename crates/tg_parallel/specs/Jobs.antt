@@ -21,7 +21,7 @@ use Rattle.tg_parallel.specs.Seats.{HasCopied, HasWorked, HasWorkedAll, MayBegin
 abbrev pub MayCollect : {G : Type 0} → Task G → Type 0
 MayCollect task = AreSound task.spaces.now.spaces task.roots.now
 
--- what its helpers made is its collection; the first says what want of room is told by
+-- what its helpers made is its collection; the first says what lack of room is told by
 abbrev pub IsCollected : {G E : Type 0} → E → Task G → ℕ → Result Copied E → Type 0
 IsCollected heap_full task helpers result = CollectsRoots heap_full task.kind task.spaces.now task.roots.now helpers helpers result
 

@@ -19,7 +19,7 @@ abbrev pub PartsBecomeOne : Kind → SpaceTable → List Root → Record → Rec
 PartsBecomeOne kind t roots v w =
     (a c b d : Numbered) → IsPart kind t roots v a c → IsPart kind t roots w b d → IsPart kind t roots (both v w) (a ++ b) (c ++ d)
 
--- a race over these spaces is over: one record stands for all helpers, and its wins were earned
+-- a race over these spaces is over: one record represents all helpers, and its wins were earned
 pub record ClosedRace (kind : Kind) (t : SpaceTable) (roots : List Root) : Type 0 where
   pub counts : Counts
   pub words : List ℕ

@@ -85,7 +85,7 @@ Numbered = List (ℕ × List (List ℕ))
 abbrev pub numbers_of : Numbered → List ℕ
 numbers_of blocks = map (λ b. b.0) blocks
 
--- no number stands twice
+-- no number is there twice
 abbrev pub AreOnce : List ℕ → Type 0
 AreOnce numbers = (n : ℕ) → weigh (one_at n) numbers ≤ 1
 

@@ -59,11 +59,11 @@ pub record AreFilled (aged : Bool) (v : Record) (numbers : List ℕ) (used : ℕ
 abbrev pub cells_used : Bool → Record → ℕ
 cells_used aged v = length (pairs_in (space_of_age aged) v.won)
 
--- as many words are left before the last block's end as places are left, behind so many that were given away (a cell's number begins at `CELL_AT`, so a step of a cell divides a link)
+-- as many words are left before the last block's end as places are left, after so many that were given away (a cell's number begins at `CELL_AT`, so a step of a cell divides a link)
 abbrev pub LeavesPlaces : ℕ → OwnBlocks → Type 0
 LeavesPlaces used b = b.next + 2 ^ CELL_AT * (CELLS * length b.numbers.items) ≡ b.end + 2 ^ CELL_AT * used
 
--- the next word is that of the next place, behind so many, in a block that the layout can name
+-- the next word is that of the next place, after so many, in a block that the layout can name
 pub record IsSeatReady (used : ℕ) (b : OwnBlocks) : Type 0 where
   pub left : LeavesPlaces used b
   pub few : slice_index b.numbers.items (used / CELLS) < MOST_SPACE_BLOCKS
@@ -124,7 +124,7 @@ pub record StayFilled (before : OwnBlocks) (old : Seated) (after : OwnBlocks) (n
   pub other : OtherStays before.aged old.done new.done
   pub room : vec_capacity after.numbers ≡ vec_capacity before.numbers
 
--- a block with this number was claimed behind these ones
+-- a block with this number was claimed after these ones
 pub record IsNumberDrawn (before : OwnBlocks) (old : Seated) (after : OwnBlocks) (new : Seated) (number : ℕ) : Type 0 where
   pub stay : StayFilled before old after new
   pub blocks : OnlyBlocks old.done new.done
@@ -231,13 +231,13 @@ pub record IsSameSeat (a b : Sitting) : Type 0 where
   pub board : b.board ≡ a.board
   pub share : b.done.share ≡ a.done.share
 
--- a chunk was claimed, behind these ones, of which none is past the last
+-- a chunk was claimed, after these ones, of which none is past the last
 pub record HasDrawn (before : List ℕ) (chunk : ℕ) (s : Sitting) : Type 0 where
   pub is : s.done.chunks ≡ before ++ chunk ∷ []
   pub before_last : All (λ c. is_chunk s.board.counts c ≡ true) before
 
 -- All that the roots of these chunks lead to was copied: their targets are met, and all won cells were scanned, whose copies
--- stand in order
+-- are in order
 pub record HasCopied (kind : Kind) (h : SpaceList) (roots : List Root) (chunks : List ℕ) (s : Sitting) (scanned : ℕ) (aged old : List (List ℕ)) : Type 0 where
   pub met : All (Contains (cells_met s.done)) (all_root_targets (from_space kind) h (roots_in roots chunks))
   pub all : scanned ≡ length s.done.won
@@ -255,7 +255,7 @@ pub record MayBegin (kind : Kind) (h : SpaceList) (roots : List Root) (s : Sitti
   pub seat : MayWork kind h roots s
   pub fresh : s.done ≡ empty 1
 
--- what it has won is earned, and it tells that the heap is full only where it has claimed a block past the limit
+-- what it has won is earned, and it shows that the heap is full only where it has claimed a block past the limit
 pub record HasWorked {T : Type 0} (kind : Kind) (h : SpaceList) (roots : List Root) (before after : Sitting) (result : Result T RoomFault) : Type 0 where
   pub same : IsSameSeat before after
   pub earned : AreEarned kind h roots after.done
@@ -273,7 +273,7 @@ pub record HasWorkedAll (kind : Kind) (h : SpaceList) (roots : List Root) (befor
 abbrev pub block_at : Numbered → ℕ → List (List ℕ)
 block_at blocks i = (slice_index_or blocks i (0, [])).1
 
--- The cells stand in these blocks, one block after the other, and free ones behind the last. Each block has its number.
+-- The cells are in these blocks, one block after the other, and free ones after the last. Each block has its number.
 pub record AreLaidOut (cells : List (List ℕ)) (numbers : List ℕ) (blocks : Numbered) : Type 0 where
   pub numbered : numbers_of blocks ≡ numbers
   pub stand : (i j : ℕ) → i < length numbers → j < CELLS → cell_of (block_at blocks i) j ≡ slice_index_or cells (CELLS * i + j) free_cell

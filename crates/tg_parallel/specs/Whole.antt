@@ -21,7 +21,7 @@ use Rattle.tg_race.specs.Race.{past}
 use Rattle.tg_parallel.specs.Merged.{AreMerged}
 use Rattle.tg_parallel.specs.Parts.{AreCountsOf, AreEarned, IsPart, Numbered}
 
--- its record stands for all helpers: the table was closed with it, all chunks of roots were claimed, its wins were earned, and
+-- its record represents all helpers: the table was closed with it, all chunks of roots were claimed, its wins were earned, and
 -- the blocks are what it asks for
 pub record IsWholePart (kind : Kind) (t : SpaceTable) (roots : List Root) (k : Counts) (words : List ℕ) (done : Record) (aged old : Numbered) : Type 0 where
   pub counts : AreCountsOf kind t.spaces roots k

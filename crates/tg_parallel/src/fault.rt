@@ -3,7 +3,7 @@ use std::alloc::{AllocError, AllocFailed};
 use tg_space::RoomFault;
 use thiserror::Error;
 
-/// Why a collection by several helpers was refused; nothing was changed then.
+/// Why a collection by several helpers was refused. Nothing was changed then.
 #[derive(Clone, Copy, PartialEq, Eq, Debug, Error)]
 pub enum HelpersFault {
     /// Memory for a growth was refused.

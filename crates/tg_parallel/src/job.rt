@@ -118,7 +118,7 @@ impl<'a, G: Gate> Job<'a, G> {
         }
     }
 
-    // The same in a full collection that reads cells ahead. Each way to read cells is compiled apart, so that the seat
+    // Helps with a full collection that reads cells ahead. Each way to read cells is compiled apart, so that the seat
     // is kept in registers.
     #[inline(never)]
     fn help_ahead(&self, alloc: Global, newcomer: Newcomer) -> Helped
@@ -129,7 +129,7 @@ impl<'a, G: Gate> Job<'a, G> {
             .help_here(alloc, newcomer)
     }
 
-    // The same in a nursery collection.
+    // Helps with a nursery collection.
     #[inline(never)]
     fn help_nursery(&self, alloc: Global, newcomer: Newcomer) -> Helped
         requires { MayHelp self.now Kind.Nursery newcomer }
@@ -139,7 +139,8 @@ impl<'a, G: Gate> Job<'a, G> {
             .help_here(alloc, newcomer)
     }
 
-    // The same. It is compiled wherever it is called, for the kind and the way to read cells that are known there.
+    // Helps with a collection. It is compiled wherever it is called, for the kind and the way to read cells that are
+    // known there.
     #[inline(always)]
     fn help_here(&self, alloc: Global, newcomer: Newcomer) -> Helped
         requires { MayHelp self.now self.now.task.kind newcomer }
@@ -177,7 +178,7 @@ impl<'a, G: Gate> Job<'a, G> {
         }
     }
 
-    // The same job, of a kind and a way to read that are known where this stands.
+    // The same job, with a kind and a way to read that are known at compile time.
     #[inline(always)]
     fn known(&self, kind: Kind, reads: Reads) -> Self
         requires { kind ≡ self.now.task.kind }
@@ -192,8 +193,8 @@ impl<'a, G: Gate> Job<'a, G> {
     }
 }
 
-// The lists of a helper at a table of so many words that has done nothing yet. That of what it will have won stands in
-// the room, where that is enough.
+// The lists of a helper at a table of so many words that has done nothing yet. That of what it will have won is in the
+// room, where that is enough.
 fn lists_of(alloc: Global, words: usize, room: Vec<u64>) -> Result<Lists, AllocError>
     ensures lists { IfOk result (AreEmptyLists words) }
     ensures few { IfOk result (AreSmallLists words (vec_capacity room)) }

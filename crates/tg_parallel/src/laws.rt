@@ -17,8 +17,8 @@ pub fn parts_become_one()
     ensures part { (kind : Kind) (t : SpaceTable) (roots : List Root) (v w : Record) → PartsBecomeOne kind t roots v w }
 {}
 
-/// If the record of all helpers has claimed a block past the limit, a collection by so many helpers may lack room for
-/// the cells that are reached.
+/// Suppose that the record of all helpers has claimed a block past the limit. Then a collection by so many helpers may
+/// lack room for the cells that are reached.
 pub fn a_block_past_the_limit_tells_of_want_of_room()
     ensures { (kind : Kind) (t : SpaceTable) (roots : List Root) → (race : ClosedRace kind t roots) →
         IsPastLimit t race.done → LacksRoomIn kind t roots race.counts.helpers }
@@ -37,8 +37,9 @@ pub fn helpers_copy_cells_in_use()
         (race : ClosedRace kind t roots) → all_copies_in race.words ≤ used_cells kind t.spaces }
 {}
 
-/// If one record is that of all helpers and has claimed past the last chunk, the helpers handed over a collection, with
-/// the words of the closed table. The notes are those of the remembered roots, and of the new blocks of Old.
+/// Suppose that one record is that of all helpers, and has claimed past the last chunk. Then the helpers handed over a
+/// collection, with the words of the closed table. The notes are those of the remembered roots, and of the new blocks
+/// of Old.
 pub fn what_helpers_made_is_a_collection()
     ensures { (kind : Kind) (t : SpaceTable) (roots : List Root) (made : Collected) →
         IsFinished kind t roots made → IsCollection kind t.spaces roots made }

@@ -93,10 +93,10 @@ fn collect_alone<G: Gate>(
 /// The result is a collection as that of `tg_evac::collect_one`. Each space may have as many blocks more than its
 /// copies need as there are helpers.
 ///
-/// `HeapFull` is returned only if the cells that the roots reach may not fit into the blocks that a space may have,
-/// with one block open for each helper. Cells that the roots don't reach take no room. `NoThread` is returned if a
-/// thread couldn't be started, which needs more than one helper. The threads that were started have ended by then. If
-/// several helpers fail, the fault is that of the least number. The helper on the calling thread has number 0.
+/// `HeapFull` is returned only if the cells that the roots reach may not fit into the blocks that a space may have. One
+/// block may be open for each helper. Cells that the roots don't reach take no room. `NoThread` is returned if a thread
+/// couldn't be started, which needs more than one helper. The threads that were started have ended by then. If several
+/// helpers fail, the fault is that of the least number. The helper on the calling thread has number 0.
 ///
 /// Each helper fills its share of the spare blocks first, but gets no more than it may fill. The helper on the calling
 /// thread gets the rest too. The table is laid out in the spare room first, which then has the list of won cells of
@@ -176,7 +176,7 @@ impl<'a, G> Promise<Helped> for Job<'a, G> {
     ghost kept_by = { λ job r. IsDone job 1 r };
 }
 
-// As many helpers as the newcomer stands for: one here, and each other on a thread of its own. None works here before
+// As many helpers as the newcomer represents: one here, and each other on a thread of its own. None works here before
 // all others have started.
 fn work_all<R: Threads + Wait + Sync, G: Gate>(
     rt: &R,
@@ -207,8 +207,8 @@ fn work_all<R: Threads + Wait + Sync, G: Gate>(
 
 // A helper here, and each other on a thread of its own.
 //
-// The job is taken apart for the closure and put together in it, and so it is in `start`: what a closure ensures is
-// known where it is handed on only if each reference is captured by itself.
+// The job is taken apart for the closure and put together in it, and `start` does this too. A closure that is handed on
+// keeps its `ensures` only if each reference is captured by itself.
 fn work_in_scope<R: Threads + Wait, G: Gate>(
     rt: &R,
     alloc: Global,
@@ -374,8 +374,8 @@ fn split_all(
     Ok(others)
 }
 
-// What all helpers have done, as if one had. Where several have a fault, that of the least number is told. The room is
-// that of the helper on the calling thread.
+// What all helpers have done, as if one had. If several helpers have a fault, the fault of the least number is
+// reported. The room is that of the helper on the calling thread.
 fn all_joined(table: &RaceTable, mine: Helped, theirs: Vec<Helped>) -> Helped
     requires own { mine.helper.table ≡ table.now.table }
     requires others { All (λ r. r.helper.table ≡ table.now.table) theirs.items }
@@ -391,7 +391,7 @@ fn all_joined(table: &RaceTable, mine: Helped, theirs: Vec<Helped>) -> Helped
     all
 }
 
-// The collection, from the table and what the helper that stands for all has made.
+// The collection, from the table and what the helper that represents all has made.
 fn finish<G: Gate>(
     alloc: Global,
     table: RaceTable,

@@ -1,4 +1,4 @@
-//! The places that a helper gives away: in its own blocks of a space, one after the other.
+//! The places that a helper gives away. They are in its own blocks of a space, one after the other.
 ghost use Rattle.std.specs.Prelude.{◌≡◌, ◌≤◌, [], false, vec_capacity};
 ghost use Rattle.tg_word.specs.declared.TheConstants.{MOST_SPACE_BLOCKS};
 ghost use Rattle.tg_race.specs.Seats.{IsWordIn};
@@ -71,8 +71,8 @@ impl OwnBlocks {
 
     // Claims a block, where no place is left.
     //
-    // It is small, and refers to nothing that stands in the seat but by a call that is laid out here: so the seat is
-    // kept in registers.
+    // It is small, and refers to the parts of the seat only by calls that are inlined here. So the seat is kept in
+    // registers.
     #[inline(always)]
     fn make_ready(
         &mut self,

@@ -14,7 +14,7 @@ use tg_evac::Copies;
 use tg_race::Helper;
 use tg_space::{RoomFault, Space};
 
-/// What a helper has copied: its blocks, each with its number. And the spare blocks that it had no use for.
+/// What a helper has copied, which is its blocks, each with its number. And the spare blocks that it had no use for.
 #[derive(Drop)]
 pub struct Part {
     /// Its blocks of Aged.
@@ -78,7 +78,7 @@ fn are_below(numbers: &[u64], limit: u64) -> bool
     numbers.iter().all(|number| *number < limit)
 }
 
-// As many of these blocks as there are numbers, each with its number, and free ones behind the last.
+// As many of these blocks as there are numbers, each with its number, and free ones after the last.
 fn laid_out(alloc: Global, numbers: &[u64], blocks: Space) -> Result<Vec<(u64, Block)>, AllocError>
     ensures numbered { IfOk result (λ laid. numbers_of laid.items ≡ numbers.now) }
     ensures each { IfOk result (λ laid. (i : ℕ) → i < length numbers.now → block_at laid.items i ≡ slice_index_or blocks i free_block) }

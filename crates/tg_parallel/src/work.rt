@@ -1,4 +1,4 @@
-//! The work of a helper: chunks of roots are claimed until there are none left, and what they lead to is copied.
+//! The work of a helper. It claims chunks of roots until there are none left, and copies what they lead to.
 ghost use Rattle.std.specs.Prelude.{◌≡◌, ℕ, ◌*◌, ◌<◌, List, OnOk, length};
 ghost use Rattle.tg_parallel.specs.declared.work.TheConstants.{CHUNK};
 ghost use Rattle.tg_parallel.specs.Jobs.{HasCopiedAt, HasDone, HasDoneAll, HasEarned, MayBeginAt, SitsAt};
@@ -13,7 +13,7 @@ use tg_block::Block;
 use tg_evac::{Copies, Walk};
 use tg_space::{RoomFault, Root};
 
-// How many roots a chunk has; the last may have fewer.
+// How many roots a chunk has. The last chunk may have fewer.
 const CHUNK: u64 = 8;
 
 /// Claims chunks of roots until there are none left, and copies all that they lead to and that no other helper has won.
@@ -68,9 +68,9 @@ fn copy_chunk<G: Gate>(
     walk.along(seat, roots, copies)
 }
 
-// The roots of a chunk: eights of them are counted from the end. What stands first reaches more of what the others
-// reach, as a subject's row leads to those that it made, so that one helper had most of the work where the first came
-// first.
+// The roots of a chunk: eights of them are counted from the end. The first roots reach more of what the others reach,
+// because a subject's row leads to the vertices that it made. So one helper would have most of the work if the first
+// roots came first.
 fn chunk_of(roots: &[Root], chunk: u64) -> &[Root]
     requires { CHUNK * chunk < length roots.now }
     ensures { result.now ≡ roots_of_chunk roots.now chunk }

@@ -1,4 +1,4 @@
-//! What the lock's side, each session and the keeper know of the journal: tokens of no bytes.
+//! What the lock's side, each session and the keeper know of the journal. It is tokens of no bytes.
 ghost use Rattle.std.specs.Prelude.{◌≡◌, ◌≤◌, ◌+◌, ◌++◌, ◌∷◌, []};
 ghost use Rattle.tg_passes.specs.declared.signed.Maker.TheVariants.{Session, Keeper};
 ghost use Rattle.tg_passes.specs.Passes.{AreOwn, MayMake, Sees, fresh_pass, looked, noted, sign};
@@ -12,8 +12,8 @@ use std::marker::{Model, PhantomData};
 use std::mem;
 use tg_journal::Entry;
 
-/// What a seat knows. The seat of the roll keeps (`keeps`): it knows all entries since the start, and a bound of the
-/// names of the workers that have sessions. The seat of a pass acts (`acts`) for a maker: it knows all entries of this
+/// What a seat knows. The seat of the roll keeps (`keeps`). It knows all entries since the start, and a bound of the
+/// names of the workers that have sessions. The seat of a pass acts (`acts`) for a maker. It knows all entries of this
 /// maker, and has seen a front of all entries in which they are. A seat is both while it looks or notes. No value of it
 /// is made.
 pub struct View {
@@ -101,8 +101,8 @@ impl<L: Board> Model for Pass<L> {
     ghost invariant = { λ p. (p.badge.table_id ≡ L.board) × (p.badge.views ≡ pass_view (pass_of p.badge.views) ∷ []) };
 }
 
-/// The table of a round, with the seat of the roll. Contracts see a `RollState`: all entries since the start with who
-/// made them, and a bound of the names of the workers that have sessions.
+/// The table of a round, with the seat of the roll. Contracts see a `RollState`. It has all entries since the start
+/// with who made them, and a bound of the names of the workers that have sessions.
 pub struct Roll<L: Board> {
     table: Table<Entry, View, (), Rolls, Global>,
     seat: Seat<Entry, View>,
@@ -131,7 +131,7 @@ impl<L: Board> Model for Roll<L> {
     ghost invariant = { λ r. (r.table.shared.table_id ≡ L.board) × (r.table.shared.table_id.words ≡ 1) × (r.seat.table_id ≡ L.board) × (r.seat.me ≡ (roll_view r.seat.me.0.all r.seat.me.0.below, [])) };
 }
 
-/// The table of a round that no type stands for yet, with its first seat.
+/// The table of a round that no type represents yet, with its first seat.
 #[derive(Drop)]
 pub struct BlankRoll {
     table: Table<Entry, View, (), Rolls, Global>,
@@ -181,8 +181,8 @@ impl BlankRoll {
 
 impl<L: Board> Roll<L> {
     /// Looks at all entries since the start with a pass, which has then seen them all. The roll stays as it is. The
-    /// pass knew what `Sees` says: its maker's entries are exactly those that were made with it, and it had seen a
-    /// front of all entries.
+    /// pass knew what `Sees` says. Its maker's entries are exactly the entries that were made with it, and it had seen
+    /// a front of all entries.
     pub fn look(&mut self, pass: &mut Pass<L>)
         ensures same { self.new ≡ self.old }
         ensures sees { Sees self.old.signed pass.old }
@@ -217,7 +217,7 @@ impl<L: Board> Roll<L> {
         pass.badge = back.into_badge();
     }
 
-    /// A pass for the session of a worker that has none: no entry was made with it, and it has seen all entries. The
+    /// A pass for the session of a worker that has none. No entry was made with it, and it has seen all entries. The
     /// name has to be one that no session before it had, so it is at or after the bound.
     pub fn issue(&mut self, worker: u64) -> Pass<L>
         requires { self.old.below ≤ worker }

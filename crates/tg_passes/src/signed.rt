@@ -1,7 +1,7 @@
 //! Entries with who made them.
 use tg_journal::Entry;
 
-/// Who makes an entry of a round: the session of a worker, or the keeper of the round.
+/// Who makes an entry of a round. It is the session of a worker, or the keeper of the round.
 pub enum Maker {
     /// The session of the worker with this name.
     Session(u64),

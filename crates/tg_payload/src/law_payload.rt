@@ -14,7 +14,7 @@ pub struct LawPayload {
     kept: Kept,
 }
 
-// The numbers of a log stand behind a box, which its first write makes. So a payload takes two words wherever it is
+// The numbers of a log are in a box, which its first write makes. So a payload takes two words wherever it is
 // kept: a store has one for each vertex.
 #[derive(Debug, Drop)]
 enum Kept {

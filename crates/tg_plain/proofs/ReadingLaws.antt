@@ -72,7 +72,7 @@ other_added s t number l h =
     let lines : lines_of t ≡ lines_of s ++ l ∷ [] = ap (map line_of) h.1 ∙ map-append line_of s.lines.items (added ∷ []) in
     ap (λ (x : List Edge). map line.Edge x ++ lines_of t) h.0 ∙ ap (λ (x : List Line). edges ++ x) lines ∙ sym (append_assoc edges (lines_of s) (l ∷ []))
 
--- a line that may be added stands behind all others
+-- a line that may be added is after all others
 pub line_added : (s t : Script) (number : ℕ) (l : Line) → MayAddLine s l → AddsLine s number l t → all_lines t ≡ all_lines s ++ l ∷ []
 line_added s t number (line.Edge edge) may h =
     let edges = map line.Edge s.edges.items in

@@ -21,7 +21,7 @@ pub enum PlainFault {
     /// The workers and vertices don't fit each other.
     #[error(transparent)]
     Opening(#[from] OpeningFault),
-    /// The line is none of the grammar, or an edge where it may not stand, or has no end.
+    /// The line isn't in the grammar, or is an edge at a place where no edge may be, or has no end.
     #[error("line {number}: bad line: {reason}")]
     BadLine { number: u64, reason: &'static str },
     /// The line has more bytes than a line may have.
@@ -30,7 +30,7 @@ pub enum PlainFault {
     /// This line has the first byte that is more than a script may have.
     #[error("line {number}: over 1048576 bytes: a script has at most 1048576, line feeds included")]
     TooLong { number: u64 },
-    /// The first line that is asked for stands behind the last.
+    /// The first line that is asked for is after the last line.
     #[error("--from {from} is behind --to {to}")]
     BadRange { from: u64, to: u64 },
     /// The script has no line that is asked for.

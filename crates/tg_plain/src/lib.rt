@@ -1,15 +1,16 @@
 //! Runs the lines of a script on the plain graph of `tg_model`, without heap, journal and collection.
 //!
-//! A [`Script`] has the lines of a reader up to the first fault in its bytes, and what they run on: workers, a limit of
-//! vertices and a stock. It is read as `tgstore` reads it, in bounded memory. [`PlainRun::open`] is the graph at the
-//! start, [`PlainRun::take`] runs one line, and [`PlainRun::of`] runs all lines. An [`Outcome`] is what all of them
-//! leave. [`obey`] has a program do what its command line asks for. [`read_options`] reads what a script runs on, which
-//! each program adds to its own options. A program prints into a [`PlainText`] first.
+//! A [`Script`] has the lines of a reader up to the first fault in its bytes. It also has what they run on, which is
+//! workers, a limit of vertices and a stock. It is read as `tgstore` reads it, in bounded memory. [`PlainRun::open`] is
+//! the graph at the start, [`PlainRun::take`] runs one line, and [`PlainRun::of`] runs all lines. An [`Outcome`] is
+//! what all of them leave. [`obey`] has a program do what its command line asks for. [`read_options`] reads what a
+//! script runs on, which each program adds to its own options. A program prints into a [`PlainText`] first.
 //! [`stock_reason`] and [`NumberOption`] say what is wrong with a value.
 //!
 //! The definitions to believe are in `specs/Lines`. They say which lines some bytes are (by `ReadsScript` of
-//! `tg_text`), which graph a line leaves, what its answer is, and how many boxes were taken. `specs/Refused` says which
-//! answers mean that a line was denied or refused. `Inner` has definitions that only this crate uses.
+//! `tg_text`). They also say which graph a line leaves, what its answer is, and how many boxes were taken.
+//! `specs/Refused` says which answers mean that a line was denied or refused. `Inner` has definitions that only this
+//! crate uses.
 #![tactic(auto)]
 
 mod bad_stock;

@@ -16,7 +16,7 @@ const VERSION: &str = "0.4.0";
 /// An option of a command line.
 #[derive(Clone, Copy)]
 pub struct Choice {
-    /// Its name, behind `--`.
+    /// Its name, after `--`.
     pub name: &'static str,
     /// What is done with its value.
     pub action: ArgAction,
@@ -24,7 +24,7 @@ pub struct Choice {
     pub value: &'static str,
     /// Which values there are.
     pub parser: ValueParser<'static>,
-    /// What has to stand beside it.
+    /// What has to be beside it.
     pub needs: &'static [&'static str],
     /// What the help says of it.
     pub help: &'static str,
@@ -88,18 +88,18 @@ pub fn read_options<'a>(matches: &ArgMatches<'a>) -> PlainOptions<'a>
 pub struct CommandLine {
     /// The name of the program.
     pub name: &'static str,
-    /// What the program does: the front of its help.
+    /// What the program does, which is the front of its help.
     pub about: &'static str,
-    /// What its help says behind the options.
+    /// What its help says after the options.
     pub manual: &'static str,
-    /// What is said after the error of a word that no option takes: how the words are meant.
+    /// What is said after the error of a word that no option takes. It says how the words are meant.
     pub advice: &'static str,
     /// The options.
     pub choices: &'static [Choice],
 }
 
 // Reads the words, the first of which is the program's name: the options that are found in them. An `Err` is the text
-// for the user, of the help as of a fault, or want of memory.
+// for the user, of the help as of a fault, or lack of memory.
 pub(crate) fn read_words<'a, S: AsStr>(
     alloc: Global,
     line: &CommandLine,
@@ -111,7 +111,7 @@ pub(crate) fn read_words<'a, S: AsStr>(
     }
 }
 
-// The same, by this command line.
+// Reads the words by clap's form of the command line.
 fn read_by<'a, S: AsStr>(
     alloc: Global,
     command: &mut Command<'a>,
@@ -164,7 +164,7 @@ fn command<'a>(alloc: Global, line: &CommandLine) -> Result<Command<'a>, AllocEr
     bare_command(alloc, line).args(args)?.bin_name(line.name)
 }
 
-// The same, without its options, and without the name that its texts give it.
+// The command line as clap has it, without its options and without the name in its texts.
 fn bare_command<'a>(alloc: Global, line: &CommandLine) -> Command<'a> {
     Command::new(alloc, line.name)
         .version(VERSION)
@@ -198,7 +198,7 @@ fn arg_of<'a>(alloc: Global, choice: &Choice) -> Result<Arg<'a>, AllocError> {
         .requires_all(choice.needs)
 }
 
-// The same, without what is said of its value.
+// An option as clap has it, without its value.
 fn named_arg<'a>(alloc: Global, choice: &Choice) -> Arg<'a> {
     Arg::new(alloc, choice.name)
         .long(choice.name)

@@ -11,7 +11,7 @@ use std::alloc::Global;
 use std::io::Read;
 use tg_model::Picture;
 
-/// What the lines of a script leave: the picture of their graph, how many boxes they didn't take, and which of them
+/// What the lines of a script leave. It is the picture of their graph, how many boxes they didn't take, and which lines
 /// were denied or refused.
 #[derive(Drop)]
 pub struct Outcome {

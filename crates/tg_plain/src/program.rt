@@ -1,4 +1,4 @@
-//! A program with a command line: from its words to its exit status.
+//! A program with a command line, from its words to its exit status.
 
 use crate::fault::PlainFault;
 use crate::options::{CommandLine, read_words};
@@ -30,7 +30,8 @@ where
     }
 }
 
-// The same, or why the words can't be had, the program ended early, or the text of an error wasn't printed.
+// Does what `obey` does. The fault says why there are no words, why the program ended early, or that the text of an
+// error wasn't printed.
 fn obey_words<R, P>(rt: &R, line: &CommandLine, program: &P) -> Result<u8, PlainFault>
 where
     R: AllocGlobal + Env + Print + Eprint,
@@ -46,7 +47,8 @@ where
     }
 }
 
-// The words of the command line. `BadWords` where one is no text; else it fails only when out of memory.
+// The words of the command line. `BadWords` is returned if a word is no text. Otherwise it fails only when out of
+// memory.
 fn words_of<R: AllocGlobal + Env>(rt: &R) -> Result<Vec<String>, PlainFault> {
     match env::args(rt) {
         Ok(words) => Ok(words.collect(rt.alloc())?),

@@ -8,7 +8,7 @@ use std::convert::AsStr;
 /// An option whose value is a number of a range.
 #[derive(Clone, Copy)]
 pub struct NumberOption {
-    /// Its name, behind `--`.
+    /// Its name, after `--`.
     pub name: &'static str,
     /// The least of its numbers.
     pub least: u64,
@@ -35,7 +35,7 @@ impl NumberOption {
         }
     }
 
-    // The same. Fails only when out of memory.
+    // The error of a value that is out of the range. Fails only when out of memory.
     fn told(&self, alloc: Global, command: &mut Command, text: &str) -> Result<Error, AllocError> {
         let NumberOption { name, least, most } = *self;
         let message = format!(in alloc;
@@ -45,7 +45,7 @@ impl NumberOption {
     }
 }
 
-// The text after the option of this name, in the next word or behind an equals sign.
+// The text after the option of this name, in the next word or after an equals sign.
 fn value_in<'a, S: AsStr>(words: &'a [S], name: &str) -> Option<&'a str> {
     let mut is_next = false;
     for word in words {
@@ -62,7 +62,7 @@ fn value_in<'a, S: AsStr>(words: &'a [S], name: &str) -> Option<&'a str> {
     None
 }
 
-// What is behind `--` and the name in a word that begins so.
+// What is after `--` and the name in a word that begins so.
 fn behind_name<'a>(word: &'a str, name: &str) -> Option<&'a str> {
     word.strip_prefix("--")?.strip_prefix(name)
 }

@@ -68,7 +68,7 @@ impl Reading {
         }
     }
 
-    // The line in the buffer, if it is one that may stand here.
+    // The line in the buffer, if it is one that may be here.
     fn take_line(&mut self) -> Result<Option<Line>, ScriptFault>
         requires { self.old.count + self.old.lines.room < MOST_BYTES }
         ensures { TakesPlainLine self.old result self.new }

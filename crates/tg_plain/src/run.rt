@@ -13,7 +13,7 @@ use tg_model::{Deed, Graph, Law, Making, Numbers, Opening, Picture, Value};
 use tg_rights::Label;
 use tg_text::{Answer, Line, Refusal, StockItem};
 
-/// The run of a script's lines: the graph that they leave, and how many boxes of the stock were taken.
+/// The run of a script's lines. It has the graph that they leave, and how many boxes of the stock were taken.
 #[derive(Drop)]
 pub struct PlainRun {
     /// The graph that the lines so far leave.
@@ -27,8 +27,8 @@ impl PlainRun {
     ghost use Rattle.tg_model.specs.Plain.{graph_of};
     ghost use Rattle.tg_plain.specs.Lines.{Leads, MakesOfBoxes, MakesOfStock, RunsScript, Steps, boxes_of, stage_of, start_of_script};
 
-    /// The run of a script's edge lines: the graph that it begins with. `Opening` where the workers and vertices don't
-    /// fit each other; else it fails only when out of memory.
+    /// The run of a script's edge lines, which is the graph that the script begins with. `Opening` is returned if the
+    /// workers and vertices don't fit each other. Otherwise it fails only when out of memory.
     pub fn open(script: &Script) -> Result<PlainRun, PlainFault>
         ensures { IfOk result (λ run. stage_of run ≡ start_of_script script.now) }
     {
@@ -55,7 +55,7 @@ impl PlainRun {
         Ok((run, refused))
     }
 
-    /// Runs a line with the boxes of this script. What it is answered; an edge line and a collection do nothing here.
+    /// Runs a line with the boxes of this script. Returns its answer. An edge line and a collection do nothing here.
     /// Fails only when out of memory, and nothing changes then.
     pub fn take(&mut self, script: &Script, line: &Line) -> Result<Answer, AllocError>
         ensures ok { IfOk result (λ answer. Leads (boxes_of script.now) (stage_of self.old) line.now answer (stage_of self.new)) }
@@ -125,7 +125,7 @@ impl PlainRun {
         if !self.graph.is_subject(worker) {
             return Ok(Answer::Refused(Refusal::Worker));
         }
-        // The worker is one, so only memory can be wanting.
+        // The worker is a subject, so only memory can be lacking.
         match self.graph.apply(worker, deed) {
             Ok(reply) => Ok(Answer::Reply(reply)),
             Err(_) => Err(AllocError),

@@ -29,7 +29,7 @@ pub struct ScriptLine {
 }
 
 /// A script as far as the first fault in its bytes, and what it runs on. It has at most 1,048,576 bytes, and each line
-/// at most 256, as `tgstore` has it: so it takes bounded memory, whatever is read.
+/// at most 256, as in `tgstore`. So it takes bounded memory, whatever is read.
 #[derive(Drop)]
 pub struct Script {
     /// Where memory comes from.
@@ -40,9 +40,9 @@ pub struct Script {
     pub max_vertices: u64,
     /// The boxes that creates and spawns take first.
     pub stock: Vec<StockItem>,
-    /// Whether they take cells without end behind these; else they are refused then.
+    /// Whether they take cells without end after these boxes. Otherwise they are refused then.
     pub is_endless: bool,
-    /// The edges of the edge lines, which stand before all other lines.
+    /// The edges of the edge lines, which are before all other lines.
     pub edges: Vec<Edge>,
     /// The other lines before the first fault, or all of them.
     pub lines: Vec<ScriptLine>,
@@ -52,7 +52,7 @@ pub struct Script {
     reason: &'static str,
 }
 
-// What came of adding the lines of a reader, and why the last line is bad, where it is.
+// How the lines of a reader were added, and why the last line is bad, if it is bad.
 #[derive(Drop)]
 struct Filled<B: Drop> {
     reader: B,

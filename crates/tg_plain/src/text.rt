@@ -9,12 +9,12 @@ use std::alloc::{AllocError, Global};
 use tg_rights::Rights;
 use tg_text::{Answer, Put, Sink, write_reply};
 
-/// A text that grows until it is printed. Where memory was wanting for it, it isn't printed.
+/// A text that grows until it is printed. Where memory ran out for it, it isn't printed.
 #[derive(Drop)]
 pub struct PlainText {
-    /// The text, where memory was never wanting.
+    /// The text, if memory never ran out.
     pub bytes: Vec<u8>,
-    /// Whether memory was wanting for a part of it, or for what it tells of.
+    /// Whether memory ran out for a part of the text, or for a value that it shows.
     pub is_short: bool,
     is_finished: bool,
 }
@@ -39,7 +39,7 @@ impl PlainText {
         self.bytes.len()
     }
 
-    /// Takes the text away. That memory was wanting stays noted.
+    /// Takes the text away. That memory ran out stays noted.
     pub fn clear(&mut self)
         ensures bytes { self.new.bytes.items ≡ [] }
         ensures whole { self.new.is_short ≡ self.old.is_short }
@@ -76,7 +76,7 @@ impl PlainText {
         self.add_bytes(rights.text().as_bytes());
     }
 
-    /// Appends spaces until so many bytes stand behind this place of the text.
+    /// Appends spaces until so many bytes are after this place of the text.
     pub fn pad(&mut self, first: usize, width: usize) {
         for _ in self.len()..first.saturating_add(width) {
             self.add(" ");
@@ -89,7 +89,7 @@ impl PlainText {
         let _ = self.bytes.pop();
     }
 
-    /// Prints the text. `OutOfMemory` where memory was wanting for it, and nothing is printed.
+    /// Prints the text. `OutOfMemory` where memory ran out for it, and nothing is printed.
     pub fn print<R: Print>(&self, rt: &R) -> Result<(), PlainFault>
         ensures { OnOk result (self.now.is_short ≡ false) }
     {

@@ -26,7 +26,7 @@ use Rattle.tg_race.specs.Board.{IsBoardOfRace, AreSmall, IsClosedTable, IsRecord
 use Rattle.tg_race.proofs.Parts.{open_aged, open_old, claims_of, rule_of, parts_of}
 use Rattle.tg_race.proofs.Steps.{claim_keeps, claim_aged_keeps, claim_old_keeps, win_keeps, look_keeps, split_keeps, join_keeps, starts, alone_keeps, few_chunks, few_aged, few_old}
 
--- the view of a seat, in the race that stands for the table
+-- the view of a seat, in the race that represents the table
 in_race : (k : Counts) (s : State ℕ View) (h : IsBoardOfRace k s) (id : ℕ) (u : View) → get_elem? s.views id ≡ some u → get_elem? h.race.records id ≡ some u.done
 in_race k s h id u at = subst (λ (l : List Record). get_elem? l id ≡ some u.done) h.records (at_map (λ (x : View). x.done) s.views id u at)
 
@@ -95,7 +95,7 @@ draws_old k slots id m none_open alive =
     (λ r rule small at. ((let few = few_old k r rule in omega arith), rule_of _ _ (claim_old_keeps k r id m.0.done (parts_of k r rule) at none_open alive), drawn_under k.kept r.next_old (λ u. u.old_blocks) r.records id m.0.done rule.blocks_once.1 at))
 
 module _ (k : Counts) (slots id : ℕ) (m : Me ℕ View) (alive : 0 < m.0.done.share) (s : State ℕ View) (h : IsBoardOfRace k s) (at : get_elem? s.views id ≡ some m.0) where
-  -- the cell whose word stands so far behind the counters
+  -- the cell whose word stands so far after the counters
   abbrev cell : ℕ → ℕ
   cell d = skipped_of k + d
 
@@ -231,7 +231,7 @@ module _ (k : Counts) (slots id : ℕ) (m : Me ℕ View) (alive : 0 < m.0.done.s
     ),
   )
 
--- a step at the word so far behind the counters, which is that of the cell so far behind those that are skipped
+-- a step at the word so far after the counters, which is that of the cell so far after those that are skipped
 pub looks : (k : Counts) (slots id d : ℕ) (m : Me ℕ View) → 0 < m.0.done.share → skipped_of k + d < k.cells
     → Allows (IsBoardOfRace k) slots id m (d + 3) (λ n. n) (looked (step slots (d + 3) 0 0 none) m)
 looks k slots id d m alive inside s h len at fits = ⊎_elim (looks_free k slots id m alive s h at d) (looks_taken k slots id m alive s h at d inside) (cases_eq (slice_index s.words (d + 3)) 0)

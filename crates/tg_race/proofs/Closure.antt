@@ -42,7 +42,7 @@ module _ {A : Type 0} where
   within_take (suc n) [] p h = h
   within_take (suc n) (x ∷ l) p h = ⊎_elim (λ e. or_left (p x) (list_any p l) e) (λ e. or_right (p x) (list_any p l) (within_take n l p e)) (or_cases (p x) (list_any p (take n l)) h)
 
-  -- a part of a list stands in it from the front or from the end on
+  -- a part of a list is in it from the front or from the end on
   split : (p : A → Bool) (n : ℕ) (l : List A) → list_any p l ≡ true → (list_any p (take n l) ≡ true) ⊎ (list_any p (drop n l) ≡ true)
   split p zero l h = inr h
   split p (suc n) [] h = inl h
@@ -51,7 +51,7 @@ module _ {A : Type 0} where
       (λ e. ⊎_elim (λ a. inl (or_right (p x) (list_any p (take n l)) a)) (λ b. inr b) (split p n l e))
       (or_cases (p x) (list_any p l) h)
 
-  -- the chunks of what stands before the first chunk are those behind it
+  -- the chunks of what is before the first chunk are those after it
   chunk_behind : (l : List A) (c : ℕ) → 8 ≤ length l → chunk_of (take (length l - 8) l) c ≡ chunk_of l (c + 1)
   chunk_behind l c long =
       let len : length (take (length l - 8) l) ≡ length l - 8 = length-take-le (length l - 8) l (omega arith) in
@@ -61,7 +61,7 @@ module _ {A : Type 0} where
       ∙ (ap (drop (length l - 8 - 8 * (c + 1))) (take-take (length l - 8 - 8 * c) (length l - 8) l (omega arith))
       ∙ (ap (λ (n : ℕ). drop n (take (length l - 8 - 8 * c) l)) start ∙ ap (λ (n : ℕ). drop (length l - 8 * (c + 1 + 1)) (take n l)) stop))
 
-  -- an item of a list stands in one of its chunks
+  -- an item of a list is in one of its chunks
   in_chunk : (p : A → Bool) (fuel : ℕ) (l : List A) → length l ≤ fuel → list_any p l ≡ true → (c : ℕ) × (8 * c < length l) × (list_any p (chunk_of l c) ≡ true)
   in_chunk p fuel [] few h = absurd (false≢true h)
   in_chunk p zero (x ∷ l) few h = absurd (omega arith)
@@ -169,7 +169,7 @@ closure c id v kept at all complete cell =
     let rule = rule_of _ _ (alone_keeps (counts_of c.net) c.race id v (parts_of (counts_of c.net) c.race kept.rule) at all) in
     (taken_reached c.net c.race v rule (kept.wins_earned id v at) complete cell, reached_taken c.net c.race v rule (kept.wins_earned id v at) complete cell)
 
--- a closed table stands for a course with the one record
+-- a closed table represents a course with the one record
 pub closed_course : (net : Net) (words : List ℕ) (done : Record) → IsClosedTable (counts_of net) words done → HasEarnedWins net done → IsCompleteRecord net done
     → (cell : ℕ) → (slice_index words cell ≢ 0) ↔ IsReachedCell net cell
 closed_course net words done closed earned complete cell =

@@ -18,7 +18,7 @@ use Rattle.tg_race.proofs.Parts.{is_past, is_open, open_aged, open_old, claims_o
 pub at_table : (x me : Seated) (y board : Board) → x ≡ me → me.table ≡ board.table → y ≡ board → x.table.id ≡ y.table.id
 at_table x me y board seat own table = ap (λ (s : Seated). s.table.id) seat ∙ (ap (λ (t : TableOf). t.id) own ∙ sym (ap (λ (b : Board). b.table.id) table))
 
--- the word of a cell stands as far behind the counters as the cell behind those that have none
+-- the word of a cell is as far after the counters as the cell after those that have none
 pub record StandsAt (k : Counts) (number d : ℕ) : Type 0 where
   pub is : number ≡ d + 3
   pub inside : 64 * k.kept + d < k.cells

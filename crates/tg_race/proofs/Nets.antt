@@ -9,7 +9,7 @@ pub any-map : {X Y : Type 0} (f : Y → Bool) (g : X → Y) (l : List X) → lis
 any-map f g [] = refl
 any-map f g (x ∷ l) = ap (λ (b : Bool). f (g x) || b) (any-map f g l)
 
--- it stands between these two places
+-- it is between these two places
 pub chunk_at : {X : Type 0} (l : List X) (c first last : ℕ) → first ≡ length l - 8 * (c + 1) → last ≡ length l - 8 * c → take (last - first) (drop first l) ≡ chunk_of l c
 chunk_at l c first last begins ends =
     let whole : last ≡ first + (last - first) = omega (arith, begins, ends) in

@@ -1,4 +1,4 @@
--- The rule as the proofs keep it: what it says of each record stands together, and ownership is a count.
+-- The rule as the proofs keep it: what it says of each record is together, and ownership is a count.
 use Rattle.std.proofs.Common.{◌≡◌, ℕ, ◌<◌, ◌≤◌, ◌==◌, List, length, Bool, true, false, if◌then◌else◌, nat_lt, All, arith}
 use Rattle.std.specs.List.{list_any}
 use Rattle.std.proofs.lemmas.Bool.{false≢true}

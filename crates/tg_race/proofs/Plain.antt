@@ -17,7 +17,7 @@ use Rattle.tg_race.proofs.Sums.{any_all, count_below, weigh-append, weigh_at, we
 -- ---- lists with the same items
 
 module _ {A : Type 0} where
-  -- no item stands twice
+  -- no item is there twice
   abbrev Distinct : List A → Type 0
   Distinct [] = Unit {0}
   Distinct (x ∷ xs) = ((y : A) → Contains xs y → x ≢ y) × Distinct xs

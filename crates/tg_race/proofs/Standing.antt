@@ -1,4 +1,4 @@
--- Won pairs and the words: each won pair stands in the table, and each place in the table was won.
+-- Won pairs and the words: each won pair is in the table, and each place in the table was won.
 use Rattle.std.proofs.Common.{◌≡◌, ◌≢◌, ◌↔◌, ℕ, zero, suc, ◌+◌, ◌*◌, ◌<◌, ◌≤◌, ◌==◌, ◌&&◌, List, [], ◌∷◌, length, get_or, slice_index, Bool, true, false, if◌then◌else◌, IsTrue, eqb, eqb-true, eq-eqb, ne_eqb, sym, refl, ap, subst, ◌∙◌, ⊎_elim, arith}
 use Rattle.std.proofs.lemmas.Bool.{cond-true, cond-false, and_parts, or_cases, eqb-false, false_from_ne_true, cases_lt}
 use Rattle.std.specs.List.{All, list_any}
@@ -67,14 +67,14 @@ taken_pair n i zero p (w ∷ ws) is here inside =
     omega (arith, cond-false (eqb w 0) 0 (pair_at n p (i, place_of w)) (ne_eqb w 0 some_), cond-true {A = ℕ} (same_pair n p (i, place_of w)) 1 0 test)
 taken_pair n i (suc c) p (w ∷ ws) is here inside = omega (arith, taken_pair n (suc i) c p ws (omega arith) here inside)
 
--- a pair of the list stands in the words, where all of it do
+-- a pair of the list is in the words, where all of it do
 pub seen_at : (words : List ℕ) (l : List (ℕ × Place)) (c : ℕ) (p : Place) → All (IsPair words) l → IsTrue (has_pair c p l) → slice_index words c ≡ place_word p
 seen_at words l c p all h =
     let q = any_all (IsPair words) (same_pair c p) l all h in
     let test = and_parts (q.0.0 == c) (same_place q.0.1 p) q.1 in
     ap (λ (n : ℕ). get_or words n 0) (sym (eqb-true q.0.0 c test.0)) ∙ (q.2 ∙ ap place_word (same_place_is q.0.1 p test.1))
 
--- a pair that a record has won stands in the table, with a place in range
+-- a pair that a record has won is in the table, with a place in range
 won_pair : (k : Counts) (r : Race) → Rule k r → EachRecord (λ v. (cell : ℕ) (p : Place) → IsTrue (has_pair cell p v.won) → (slice_index r.words cell ≡ place_word p) × IsPlace p) r.records
 won_pair k r rule id v at cell p won =
     let mine = any_weighs (same_pair cell p) v.won won in

@@ -1,5 +1,5 @@
--- The table: the counters are the words 0, 1 and 2, and behind them stands the word of each cell that may be moved. The first
--- cells lie in blocks that stay, and have no word in the table. What each step tells.
+-- The table: the counters are the words 0, 1 and 2, and after them stands the word of each cell that may be moved. The first
+-- cells lie in blocks that stay, and have no word in the table. What each step shows.
 use Rattle.std.specs.Prelude.{◌≡◌, ◌≢◌, ℕ, ◌+◌, ◌-◌, ◌*◌, ◌^◌, ◌<◌, ◌≤◌, ◌==◌, true, false, List, [], ◌∷◌, ◌++◌, if◌then◌else◌, All, map, replicate}
 use Rattle.tg_word.specs.declared.TheConstants.{CELLS, MOST_SPACE_BLOCKS}
 use Rattle.tg_word.specs.declared.Place.{Place}
@@ -46,7 +46,7 @@ does u v = record { skipped = u.skipped; done = v }
 abbrev pub number_of_cell : View → ℕ → ℕ
 number_of_cell u i = u.skipped + (i - 3)
 
--- what a step at a counter tells: the record has drawn the number that was found, which is above all that it had
+-- what a step at a counter shows: the record has drawn the number that was found, which is above all that it had
 abbrev pub drew_chunk : Step ℕ → Me ℕ View → ℕ → Me ℕ View → Type 0
 drew_chunk st m n m' = (m' ≡ (does m.0 (with_chunk m.0.done n), m.1)) × All (λ c. c < n) m.0.done.chunks
 
@@ -60,12 +60,12 @@ drew_old st m n m' = (m' ≡ (does m.0 (with_claimed_block false m.0.done n), m.
 abbrev pub IsRecorded : Record → ℕ → ℕ → Type 0
 IsRecorded v cell n = ((p : Place) → HasMet v cell p → n ≡ place_word p) × (n ≡ 0 → has_met v cell ≡ false)
 
--- what a load of a cell's word tells: it was 0, or names the place that the record has now seen; and what the record knew
+-- what a load of a cell's word shows: it was 0, or names the place that the record has now seen; and what the record knew
 abbrev pub looked : Step ℕ → Me ℕ View → ℕ → Me ℕ View → Type 0
 looked st m n m' =
     (n ≢ 0 → IsForward n) × (m' ≡ (does m.0 (if n == 0 then m.0.done else with_seen m.0.done (number_of_cell m.0 st.word, place_of n)), m.1)) × IsRecorded m.0.done (number_of_cell m.0 st.word) n
 
--- what an exchange at a cell's word tells: where it was 0 the cell is won, else the place that was found is seen
+-- what an exchange at a cell's word shows: where it was 0 the cell is won, else the place that was found is seen
 abbrev pub tried : Step ℕ → Me ℕ View → ℕ → Me ℕ View → Type 0
 tried st m n m' =
     (n ≢ 0 → IsForward n) × (m' ≡ (does m.0 (if n == 0 then with_won m.0.done (number_of_cell m.0 st.word, place_of st.second) else with_seen m.0.done (number_of_cell m.0 st.word, place_of n)), m.1))

@@ -107,7 +107,7 @@ abbrev pub course_after : Course → List (ℕ × Event) → Course
 course_after c [] = c
 course_after c (e ∷ es) = course_after (if can_happen c e.0 e.1 then happens c e.0 e.1 else c) es
 
--- all cells are free, and one empty record stands for all helpers
+-- all cells are free, and one empty record represents all helpers
 abbrev pub starting : Net → Course
 starting net = record {
   net = net;

@@ -18,7 +18,7 @@ use Rattle.tg_race.specs.Course.{Net, counts_of, IsCompleteRecord, IsReachedCell
 abbrev pub KeepsCellPlaces : Race → Race → Type 0
 KeepsCellPlaces old new = (cell : ℕ) → forwarding_word old cell ≢ 0 → forwarding_word new cell ≡ forwarding_word old cell
 
--- what the record has won stands in the words
+-- what the record has won is in the words
 abbrev pub HasWinsIn : List ℕ → Record → Type 0
 HasWinsIn words v = (cell : ℕ) (p : Place) → IsTrue (has_pair cell p v.won) → slice_index words cell ≡ place_word p
 
@@ -34,7 +34,7 @@ GivesPlacesOnce won =
 
 -- ---- the closure
 
--- the record with this number stands for all helpers
+-- the record with this number represents all helpers
 abbrev pub StandsForAll : ℕ → Race → ℕ → Record → Type 0
 StandsForAll helpers r id v = (get_elem? r.records id ≡ some v) × (v.share ≡ helpers)
 

@@ -25,7 +25,7 @@ empty share = record { chunks = []; won = []; seen = []; aged_blocks = []; old_b
 
 -- ---- words of the rule
 
--- what stands in a chunk, which is an eight of the list counted from the end, so that the last chunk may be shorter
+-- what is in a chunk, which is an eight of the list counted from the end, so that the last chunk may be shorter
 abbrev pub chunk_of : {A : Type 0} → List A → ℕ → List A
 chunk_of l c = drop (length l - 8 * (c + 1)) (take (length l - 8 * c) l)
 
@@ -53,7 +53,7 @@ has_room space won b = nat_lt (used_in space b won) CELLS
 abbrev pub with_room : ℕ → List (ℕ × Place) → List ℕ → ℕ
 with_room space won blocks = weigh (λ b. if has_room space won b then 1 else 0) blocks
 
--- whether the number stands in the list
+-- whether the number is in the list
 abbrev pub has_number : ℕ → List ℕ → Bool
 has_number x = list_any (λ y. y == x)
 
@@ -124,11 +124,11 @@ pub record Rule (k : Counts) (r : Race) : Type 0 where
   pub wins_once : AreWonOnce r
   -- won places differ, and lie in the winner's own blocks
   pub places_own : AreOwnPlaces r
-  -- what was seen stands in the table
+  -- what was seen is in the table
   pub seen_stands : EachRecord (λ v. All (IsPair r.words) v.seen) r.records
   -- no record wastes more than its share, and the shares add up to the number of helpers
   pub within_share : EachRecord (IsWithinShare k) r.records × (weigh (λ v. v.share) r.records ≡ k.helpers)
-  -- a record with no share is spent: it is empty, and stands for no helper
+  -- a record with no share is spent: it is empty, and represents no helper
   pub spent : EachRecord (λ v. v.share ≡ 0 → v ≡ empty 0) r.records
 
 -- the record has won or seen the cell with this place

@@ -1,7 +1,6 @@
--- Lists, and the numbers below a bound, as sums of weights.
--- Two lists have the same sum under every weight exactly where they hold the same items, each as often: so 'however the
--- items are weighed, the sums agree' says 'the same items, each as often', with no word on their order. The weight
--- `one_at x` counts how often x stands in a list.
+-- Lists, and the numbers below a bound, as sums of weights. Two lists have the same sum under every weight exactly
+-- where they hold the same items, each as often: so 'however the items are weighed, the sums agree' says 'the same
+-- items, each as often', with no word on their order. The weight `one_at x` counts how often x is in a list.
 use Rattle.std.specs.Prelude.{ℕ, zero, suc, ◌+◌, ◌==◌, List, [], ◌∷◌, if◌then◌else◌}
 
 -- the weights of the items, added up

@@ -1,4 +1,4 @@
--- Forwarding words, and the pairs of a cell and its place that they stand for.
+-- Forwarding words, and the pairs of a cell and its place that they represent.
 use Rattle.std.specs.Prelude.{◌≡◌, ◌≢◌, ℕ, suc, ◌+◌, ◌==◌, ◌&&◌, Bool, List, [], ◌∷◌, if◌then◌else◌, slice_index, All}
 use Rattle.std.specs.List.{list_any}
 use Rattle.tg_word.specs.declared.Place.{Place}
@@ -54,6 +54,6 @@ lies_in space b p = (p.space == space) && (b == p.block)
 abbrev pub same_pair : ℕ → Place → ℕ × Place → Bool
 same_pair cell p q = (q.0 == cell) && same_place q.1 p
 
--- whether the pair of the cell and the place stands in the list
+-- whether the pair of the cell and the place is in the list
 abbrev pub has_pair : ℕ → Place → List (ℕ × Place) → Bool
 has_pair cell p = list_any (same_pair cell p)

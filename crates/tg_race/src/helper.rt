@@ -1,4 +1,5 @@
-//! A helper: a seat at the table. Each call is one event of the race, and ensures what that event does to the record.
+//! A helper, which is a seat at the table. Each call is one event of the race, and ensures what that event does to the
+//! record.
 ghost use Rattle.std.specs.Prelude.{◌≡◌, ◌≢◌, ◌<◌, false, IfSome, IfNone, Some, All};
 ghost use Rattle.tg_word.specs.declared.Place.{Place as PlaceOf};
 ghost use Rattle.tg_word.specs.Word.{IsPlace};
@@ -110,7 +111,7 @@ impl Helper {
 
     /// Gives a cell this place, if it has none. The place is unused, in a block that the helper has claimed.
     ///
-    /// Whether the cell was won or lost is decided by one exchange: a place that a cell has never changes.
+    /// One exchange decides whether the cell was won or lost. A place that a cell has never changes.
     #[inline(always)]
     pub fn claim_cell(&mut self, table: &RaceTable, cell: u64, place: Place) -> Claim
         requires { MayClaimCell self.old table.now cell place }
@@ -124,7 +125,8 @@ impl Helper {
         Claim::Lost(place_in(found))
     }
 
-    /// Gives a cell the place in a word, if it has none, and answers 0; else the word of the place that it has.
+    /// Gives a cell the place in a word, if it has none, and returns 0. Otherwise it returns the word of the place that
+    /// the cell has.
     #[inline(always)]
     pub fn claim_word(&mut self, table: &RaceTable, at: CellWord, word: u64) -> u64
         requires { MayClaimWord self.old table.now at word }

@@ -43,7 +43,7 @@ pub fn a_closed_table_has_the_wins()
     ensures { (k : Counts) (words : List ℕ) (done : Record) → IsClosedTable k words done → HasJustTheWins done words }
 {}
 
-/// No cell of a closed table was won twice, and no place was given twice: an equal place is that of an equal cell.
+/// No cell of a closed table was won twice, and no place was given twice. An equal place is that of an equal cell.
 pub fn wins_of_a_closed_table_differ()
     ensures cells { (k : Counts) (words : List ℕ) (done : Record) → IsClosedTable k words done → AllPairs (λ q r. q.0 ≢ r.0) done.won }
     ensures places { (k : Counts) (words : List ℕ) (done : Record) → IsClosedTable k words done → AllPairs (λ q r. q.1 ≢ r.1) done.won }
@@ -74,7 +74,7 @@ pub fn wins_stay_earned_under_join()
     ensures { (net : Net) (v w : Record) → HasEarnedWins net v → HasEarnedWins net w → HasEarnedWins net (both v w) }
 {}
 
-/// Blocks are few: each is full of won cells, but for one a helper and space.
+/// Blocks are few. Each is full of won cells, but for one block of each helper and space.
 ///
 /// The bound is on the number of the next block.
 pub fn blocks_are_few()

@@ -1,4 +1,4 @@
-//! The race of a collection: forwarding words that several helpers share, and the rule that they keep.
+//! The race of a collection. It has forwarding words that several helpers share, and the rule that they keep.
 //!
 //! A collection copies the cells that the roots reach, each into one place of Aged or of Old. Several helpers that do
 //! this at once share one row of words:

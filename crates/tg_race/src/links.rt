@@ -1,4 +1,4 @@
-//! The word of a cell that has a place: a reference with no rights to that place.
+//! The word of a cell that has a place. It is a reference with no rights to that place.
 ghost use Rattle.std.specs.Prelude.{◌≡◌};
 ghost use Rattle.tg_word.specs.Word.{IsPlace};
 ghost use Rattle.tg_race.specs.Words.{place_word, place_of as place_in_word};

@@ -1,12 +1,12 @@
-//! The rule of the table, and what each step on it tells the helper that makes it.
+//! The rule of the table, and what each step on it shows to the helper that makes it.
 ghost use Rattle.tg_race.specs.Board.{IsBoardOfRace, does, drew_chunk, drew_aged, drew_old, looked, skipped_of, tried};
 ghost use Rattle.tg_race.specs.Race.{empty, both, less_one};
 
 use crate::record::{Counts, Record};
 use atomic_table::{Join, Play, Split, TableRule};
 
-/// What a seat knows, in proofs alone: how many of the first cells have no word in the table, and what its helper has
-/// done.
+/// What a seat knows, in proofs alone. It is how many of the first cells have no word in the table, and what its helper
+/// has done.
 pub struct View {
     /// How many of the first cells have no word.
     pub skipped: u64,
@@ -14,7 +14,7 @@ pub struct View {
     pub done: Record,
 }
 
-/// The rule of the table: its words and the records of its helpers are those of a race under the rule.
+/// The rule of the table. Its words and the records of its helpers are those of a race under the rule.
 pub struct Forwards;
 
 impl TableRule<u8, View, Counts> for Forwards {

@@ -14,7 +14,7 @@ use std::marker::Model;
 use tg_closed::{ClosedWords, zeros};
 use tg_word::CELLS;
 
-// How many words stand in front of those of the cells.
+// How many words are in front of those of the cells.
 const COUNTERS: usize = 3;
 
 /// The table that the helpers of one collection share. It has three counters and a word for each cell that may move.
@@ -107,7 +107,7 @@ impl RaceTable {
         })
     }
 
-    /// How many words it has: three counters, and one for each cell that isn't in a block that Old keeps.
+    /// How many words it has. It has three counters, and a word for each cell that isn't in a block that Old keeps.
     pub fn len(&self) -> usize
         ensures len { result ≡ self.now.table.id.words }
         ensures whole { result + CELLS * self.now.counts.kept ≡ self.now.counts.cells + 3 }
@@ -118,8 +118,8 @@ impl RaceTable {
 
     /// Returns the words of the cells that Old doesn't keep, once the record of the helper that is left is that of all.
     ///
-    /// With a 0 for each cell that Old keeps, these words and the record are those of a race under the rule with that
-    /// one record.
+    /// Suppose that each cell that Old keeps gets a 0. Then these words and the record are those of a race under the
+    /// rule with that one record.
     pub fn close(self, helper: Helper) -> ClosedWords
         requires own { helper.table ≡ self.table }
         requires all { helper.done.share ≡ self.counts.helpers }

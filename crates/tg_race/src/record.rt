@@ -15,7 +15,7 @@ pub struct Counts {
     pub cells: u64,
     /// How many roots there are, in chunks of 8.
     pub roots: u64,
-    /// Old's first block number: how many blocks Old keeps.
+    /// Old's first block number, which is how many blocks Old keeps.
     pub kept: u64,
     /// How many helpers there are.
     pub helpers: u32,
@@ -73,7 +73,7 @@ impl Record {
             && other.share < LIMIT as u64
     }
 
-    // All that the other has done, behind what this one has.
+    // All that the other has done, after what this one has.
     pub(crate) fn take_in(&mut self, other: Record)
         requires { FitOne self.now other }
         ensures { self.exit.now ≡ both self.entry.now other }

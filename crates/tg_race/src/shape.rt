@@ -8,7 +8,7 @@ use crate::record::Record;
 use std::collections::LinkedList;
 use tg_word::Place;
 
-/// What is raced over. Cells are numbered from 0 on; a target that is no cell's number can be won by no event.
+/// What is raced over. Cells are numbered from 0 on. A target that is no cell's number can be won by no event.
 #[derive(Drop)]
 pub struct Shape {
     /// The targets of each root.
@@ -17,7 +17,7 @@ pub struct Shape {
     pub targets: Vec<Vec<u64>>,
     /// Old's first block number.
     pub kept: u64,
-    /// How many blocks a space may have: no place is given in a block with this number or above.
+    /// How many blocks a space may have. No place is given in a block with this number or above.
     pub space_blocks: u64,
     /// How many helpers there are.
     pub helpers: u32,

@@ -13,7 +13,7 @@ use std::marker::Model;
 use std::mem;
 use tg_word::{CELLS, MOST_SPACE_BLOCKS, Place, SPACES};
 
-/// The race as a state machine: its words, and a record for each helper that was made. A clause sees its course.
+/// The race as a state machine. It has its words, and a record for each helper that was made. A clause sees its course.
 #[derive(Drop)]
 pub struct World {
     alloc: Global,
@@ -58,8 +58,8 @@ impl World {
 
     /// One event of the helper whose record has this number.
     ///
-    /// The answer is true where the event could happen: its helper was made and isn't spent, and its condition held.
-    /// Else it is false and nothing changes; where memory is wanted nothing changes either.
+    /// The answer is true if the event could happen. Then its helper was made and isn't spent, and its condition held.
+    /// Otherwise it is false and nothing changes. If memory runs out, nothing changes either.
     pub fn event(&mut self, helper: usize, event: Event) -> Result<bool, AllocError>
         ensures { MatchResult result (HappensIfItCan self.old self.new helper event) (λ _. self.new ≡ self.old) }
     {
@@ -89,7 +89,7 @@ impl World {
         }
     }
 
-    /// The record with this number; `None` if no helper has it.
+    /// The record with this number. It is `None` if no helper has it.
     pub fn record_of(&self, number: usize) -> Option<&Record>
         ensures { option_copied result ≡ slice_get self.now.race.records number }
     {

@@ -64,7 +64,7 @@ vertex_at p is old mid vs same places name at q placed kept line =
     kept.vertices name (get_or places at q)
     (subst (λ (n : ℕ). IsVertexAt old.table.spaces n (get_or places at q)) (mine.named nobody) (placed.each at nobody q mine.inside))
 
--- a content with all that is shown, and nothing but what was made, stands for the graph that is shown
+-- a content with all that is shown, and nothing but what was made, represents the graph that is shown
 pub shown_stands : (p : Saved) → IsSnapshot p → (c : Content) → ((x : ℕ) → IsNamed c x → x < p.picture.made) → ((y : ℕ) → ShowsName p.vertices y → IsNamed c y) → ((x y : ℕ) → c.label x y ≡ label_in p.picture.edges x y) → ((x : ℕ) → IsNamed c x → c.value x ≡ stored_in p x) → IsContentOf c (graph_shown p)
 shown_stands p is c made shown labels values = record {
   made = made;
@@ -74,7 +74,7 @@ shown_stands p is c made shown labels values = record {
   values = values;
 }
 
--- one vertex more is where it is told
+-- one vertex more is where it is reported
 pub place_more : (vs : List ShownVertex) (old new : SpaceList) (at : ℕ) (ps qs : List Place) (place : Place) → qs ≡ ps ++ place ∷ [] → length ps ≡ at → ((k : ℕ) (d : ShownVertex) (q : Place) → k < at → IsVertexAt old (get_or vs k d).name (get_or ps k q)) → ((x : ℕ) (q : Place) → IsVertexAt old x q → IsVertexAt new x q) → ((d : ShownVertex) → IsVertexAt new (get_or vs at d).name place) → (k : ℕ) (d : ShownVertex) (q : Place) → k < at + 1 → IsVertexAt new (get_or vs k d).name (get_or qs k q)
 place_more vs old new at ps qs place more long before kept here k d q low =
     subst (λ (rs : List Place). IsVertexAt new (get_or vs k d).name (get_or rs k q)) (sym more)

@@ -1,4 +1,4 @@
--- Where the vertices of a snapshot stand in its list, and what is stored there.
+-- Where the vertices of a snapshot are in its list, and what is stored there.
 use Rattle.std.proofs.Common.{◌≡◌, ◌∙◌, ◌+◌, ◌<◌, ℕ, List, length, get_or, Result, Ok, Err, Option, Some, None, refl, sym, ap, subst, arith}
 use Rattle.std.specs.Prelude.{EachIndex, IsSome, MatchOption, nat_lt, unwrap_or}
 use Rattle.std.specs.Result.{result_ok}

@@ -71,7 +71,7 @@ fn let_go<P: Payload>(heap: &mut Heap<P>, holder: u64, name: u64, held: Label) -
     ensures kept { KeepsPlaces heap.old heap.new }
 {
     let from = heap.worker_place(holder);
-    // It tells that there are rights.
+    // This call shows that there are rights.
     let _ = held.rights();
     match heap.find_edge(from, name) {
         Some(found) => {

@@ -82,9 +82,9 @@ fn raise<P: Payload, M: Maker<P>>(
     };
     add_subjects(heap, maker, snapshot, scaffold)?;
     let places = place_vertices(heap, maker, snapshot, scaffold)?;
-    // It tells what holds of all spaces (`IsSpaceTable`).
+    // It shows what holds of all spaces (`IsSpaceTable`).
     let _ = heap.subjects();
-    // It tells that the lists are a snapshot.
+    // This call shows that the lists are a snapshot.
     let _ = snapshot.picture();
     add_edges(heap, holder, snapshot, places.as_slice())?;
     leave_none(heap, snapshot);

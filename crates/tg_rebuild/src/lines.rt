@@ -1,4 +1,4 @@
-//! Where a name stands in the list of vertices of a snapshot, and what is stored there.
+//! Where a name is in the list of vertices of a snapshot, and what is stored there.
 ghost use Rattle.std.specs.Prelude.{◌≡◌, EachIndex, IfOk, MatchOption};
 ghost use Rattle.tg_model.specs.Law.{Fits};
 ghost use Rattle.tg_model.specs.Opened.{ValueFits};

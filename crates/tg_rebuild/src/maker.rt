@@ -10,14 +10,14 @@ use tg_payload::{LawPayload, Payload};
 pub trait Maker<P: Payload> {
     /// A payload with this law and this state, which fits the law. Fails only when out of memory.
     ///
-    /// `name` is the name of the vertex that is to have the payload. A host must not believe it: whoever wrote the
-    /// snapshot or the entry wrote the name. The payload is dropped again if the entry turns out bad, or if there is no
-    /// room.
+    /// `name` is the name of the vertex that is to have the payload. A host must not believe it, because whoever wrote
+    /// the snapshot or the entry wrote the name. The payload is dropped again if the entry turns out bad, or if there
+    /// is no room.
     ///
     /// - [`heap_of`](crate::heap_of) asks once for each vertex of its snapshot. It asks once without a name if the
-    ///   snapshot doesn't show the vertex 0: nobody reaches that vertex.
+    ///   snapshot doesn't show the vertex 0. Then nobody reaches that vertex.
     /// - `resume` of `tg_resume` asks once for each entry that makes a vertex. There is no name if the entry says that
-    ///   no vertex was made; the payload is then dropped.
+    ///   no vertex was made. Then the payload is dropped.
     fn make(&mut self, name: Option<u64>, law: Law, state: &[u64]) -> Result<P, AllocError>
         requires { Fits law state.now }
         ensures { IfOk result (λ payload. P.value payload ≡ record { law = law; state = state.now }) };

@@ -13,7 +13,7 @@ use tg_payload::Payload;
 use tg_snapshot::Snapshot;
 use tg_space::RoomFault;
 
-/// For whom vertices are made: the first subject, or 0 if the snapshot has none.
+/// For whom vertices are made. It is the first subject, or 0 if the snapshot has none.
 pub(crate) fn holder_of(snapshot: &Snapshot) -> u64
     ensures { result ≡ holder_among snapshot.now.picture.subjects }
 {
@@ -36,7 +36,7 @@ pub(crate) fn hand_on<P: Payload, M: Maker<P>>(
     requires zero { scaffold.holder ≡ 0 }
     ensures { OnOk result (IsHandedOn snapshot.now heap.old heap.new) }
 {
-    // It tells that subjects are shown.
+    // This call shows that subjects are shown.
     let _ = snapshot.picture();
     let first = holder_of(snapshot);
     if first == 0 {
@@ -94,7 +94,7 @@ fn spawn<P: Payload, M: Maker<P>>(
     ensures { OnOk result (Spawns snapshot.now name heap.old heap.new) }
 {
     let vertices = snapshot.vertices();
-    // It tells that the vertices rise and fit.
+    // This call shows that the vertices rise and fit.
     let _ = snapshot.picture();
     let draft = draft_of(scaffold.alloc, maker, &vertices[line_shown(vertices, name)])?;
     add_subject(heap, scaffold.holder, name, draft)

@@ -49,7 +49,7 @@ fn place_one<P: Payload, M: Maker<P>>(
     ensures placed { OnOk result (IsPlaced snapshot.now at heap.old heap.new) }
     ensures vertex { IfOk result (λ place. (d : ShownOf) → IsVertexAt heap.new.table.spaces (slice_index_or snapshot.now.vertices at d).name place) }
 {
-    // It tells that the vertices rise and fit.
+    // This call shows that the vertices rise and fit.
     let _ = snapshot.picture();
     let vertices = snapshot.vertices();
     let vertex = &vertices[at];

@@ -44,7 +44,7 @@ fn draft_of_zero<P: Payload, M: Maker<P>>(
 ) -> Result<Draft<P>, AllocError>
     ensures { IfOk result (λ draft. stored_in snapshot.now 0 ≡ Some draft) }
 {
-    // It tells that the vertices rise and fit.
+    // This call shows that the vertices rise and fit.
     let _ = snapshot.picture();
     let vertices = snapshot.vertices();
     match line_of(vertices, 0) {

@@ -1,4 +1,4 @@
-//! The remembered set: the places of old cells that may refer to young ones.
+//! The remembered set, which has the places of old cells that may refer to young cells.
 //!
 //! A nursery collection reads only the remembered cells of Old. So each old cell that gets a reference or a link into a
 //! younger space is noted here, once, however often it is written. The set keeps the order of first notes, because the

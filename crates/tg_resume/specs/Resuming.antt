@@ -13,8 +13,8 @@ use Rattle.tg_resume.specs.declared.stopped.ResumeStopped.{ResumeStopped}
 use Rattle.tg_resume.specs.declared.stopped.ResumeStopped.TheVariants.{BadPlace, BadEntry, NoRoom}
 use Rattle.tg_resume.specs.Room.{LacksRoom}
 
--- The store has exactly these entries more. They are a legal history of the graph that it stood for, and it stands for the graph after
--- them. Opening, limits and what was handed out are as they were.
+-- The store has exactly these entries more. They are a legal history of the graph that it represented, and it represents the graph
+-- after them. Opening, limits and what was handed out are as they were.
 pub record Resumes (es : List Entry) (old new : StoreState) : Type 0 where
   pub entries : new.entries ≡ old.entries ++ es
   pub legal : IsLegal (graph_of_store old) es

@@ -40,7 +40,7 @@ pub(crate) fn replay<P: Payload, M: Maker<P>>(
             make(store, entry.worker, Making::Subject, *label, draft)?
         }
     };
-    // It tells that the store's own entry is legal.
+    // This call shows that the store's own entry is legal.
     let _ = store.journal();
     Ok(entry.reply.same(&reply))
 }

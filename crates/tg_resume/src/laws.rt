@@ -1,4 +1,4 @@
-//! What a store is that was resumed. A function here does nothing: what it ensures is the law.
+//! What a store is that was resumed. A function here does nothing. Its `ensures` is the law.
 ghost use Rattle.std.specs.Prelude.{◌≡◌, ◌-◌, ℕ, List, ◌++◌, drop, length};
 ghost use Rattle.tg_journal.specs.declared.entry.Entry.{Entry};
 ghost use Rattle.tg_space.specs.declared.room_fault.RoomFault.{RoomFault};

@@ -21,8 +21,8 @@
 //!
 //! **Parts.** `tg_resume::laws` has a law about a store that is resumed from several parts.
 //!
-//! **Who may call.** This crate calls public functions of [`Store`](tg_store::Store) alone. Any store can be resumed:
-//! one that was just opened, one that was resumed before, and one that took commands since.
+//! **Who may call.** This crate calls public functions of [`Store`](tg_store::Store) alone. Any store can be resumed.
+//! It may have been just opened or resumed before, and it may have taken commands since.
 #![tactic(auto)]
 
 mod entry;

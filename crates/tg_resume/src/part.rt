@@ -50,7 +50,8 @@ impl<'a> Part<'a> {
 /// Why entries were no more replayed, and at which place of the journal, counted from 0.
 #[derive(Clone, Copy)]
 pub enum Halted {
-    /// The first entry that isn't legal. The store is of no use: it may have done a deed that the entries don't have.
+    /// The first entry that isn't legal. The store is of no use, because it may have done a deed that the entries don't
+    /// have.
     BadEntry { at: u64 },
     /// There is no room for this entry. The store has all entries before it.
     NoRoom { at: u64, why: RoomFault },
@@ -70,8 +71,9 @@ pub enum Halted {
 ///   as it was.
 /// - `BadEntry`, with the first place in the journal whose entry isn't legal. The store is dropped.
 /// - `NoRoom`, with the place of the entry for which there is no room. The store is handed back with all entries before
-///   that place, and goes on if it is fed from there. The reason is `HeapFull` only if the heap is still full for the
-///   deed after a full collection, or if there is no room for that collection. Otherwise the reason is `OutOfMemory`.
+///   that place, and goes on if it is fed from there. The reason is `HeapFull` in two cases only. Either the heap is
+///   still full for the deed after a full collection, or there is no room for that collection. Otherwise the reason is
+///   `OutOfMemory`.
 pub fn resume<P: Payload, M: Maker<P>>(
     alloc: Global,
     store: Store<P>,

@@ -186,7 +186,7 @@ join_letter : (letter : ℕ) (xs : List ℕ) → letter_if (strip_letter letter 
 join_letter letter [] = refl
 join_letter letter (x ∷ xs) = join_first (x == letter) letter x xs (Decides-eqb x letter).0
 
--- what was read is what the set had before, and the rights of the list whose letters stand in the text
+-- what was read is what the set had before, and the rights of the list whose letters are in the text
 record IsReadIn (xs : List Right) (s : RightSet) (text : List ℕ) (found : RightSet) : Type 0 where
   letters : letters_in found xs ≡ text
   others : (y : Right) → is_fresh y xs ≡ true → has found y ≡ has s y

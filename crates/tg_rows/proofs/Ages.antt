@@ -31,11 +31,11 @@ pub map_same : (f : Place → Place) (ps : List Place) → All (λ p. f p ≡ p)
 map_same f [] same = refl
 map_same f (p ∷ ps) same = ap (λ q. q ∷ map f ps) (same zero p (omega arith)) ∙ ap (λ qs. p ∷ qs) (map_same f ps (λ k d low. same (suc k) d (omega (arith, low))))
 
--- what is followed behind the cells that stay is the whole row followed
+-- what is followed after the cells that stay is the whole row followed
 pub moved_behind : (f : Place → Place) (xs ys : List Place) → All (λ p. f p ≡ p) xs → xs ++ map f ys ≡ map f (xs ++ ys)
 moved_behind f xs ys same = ap (λ (qs : List Place). qs ++ map f ys) (sym (map_same f xs same)) ∙ sym (map-append f xs ys)
 
--- the first cells are in Old, and so are as many behind them
+-- the first cells are in Old, and so are as many after them
 pub old_behind : (xs ys : List Place) (first n : ℕ) → length xs ≡ first → All IsOldPlace xs → All IsOldPlace (take n ys) → All IsOldPlace (take (first + n) (xs ++ ys))
 old_behind xs ys first n long old behind =
     subst (All IsOldPlace) (sym (ap (λ k. take (k + n) (xs ++ ys)) (sym long) ∙ take-append-add xs ys n)) (All-append IsOldPlace xs (take n ys) old behind)

@@ -192,7 +192,7 @@ module _ (h : SpaceList) (payloads : Payloads) (is : IsSpaceList h) (graph : IsG
       let ps = chunks_from h (length (cells_of h)) (link_at h p) in
       ⊎_elim (λ same. inl (subst (IsKindAt h Object) same object)) (λ rest. inr (All-contains (IsKindAt h Chunk) ps q (chain_chunks h ps (link_at h p) (graph.ends p object)) rest)) (Contains-cases p ps q has)
 
-  -- its link stands behind its references
+  -- its link is after its references
   pub row_low : (q : Place) → Contains (row_of h p) q → first_pointer (slice_index (cell_at h q) 0) ≤ 7
   row_low q has =
       ⊎_elim

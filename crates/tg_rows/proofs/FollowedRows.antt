@@ -72,7 +72,7 @@ same_some q (e ∷ es) (suc i) w = by_test (nat_eq q e.0) (same_some q es i w)
 
 -- ---- the loop
 
--- The indexes before a place were followed, and the others not yet. One is missing only where its row was left behind.
+-- The indexes before a place were followed, and the others not yet. One is missing only where its row wasn't copied.
 pub record AreFollowedTo (kind : Kind) (starts forward : List ℕ) (notes : List Place) (rows es : Entries) (at : ℕ) : Type 0 where
   pub done : (j : ℕ) (d : Entry) → j < at → j < length es → IsFollowed kind starts forward notes rows (get_or es j d).0 (get_or es j d).1
   pub todo : (j : ℕ) (d : Entry) → at ≤ j → j < length es → lookup (nat_eq (get_or es j d).0) rows ≡ Some (get_or es j d).1
@@ -183,7 +183,7 @@ module _ (kind : Kind) (starts forward : List ℕ) (notes : List Place) (rows es
       let out : (q : ℕ) → lookup (nat_eq q) rest ≡ cond (nat_eq (get_or later at (0, row)).0 q) None (lookup (nat_eq q) later) = subst (λ (o : Option Entry). IfSome o (λ p. (q : ℕ) → lookup (nat_eq q) rest ≡ cond (nat_eq p.0 q) None (lookup (nat_eq q) later))) there gone in
       subst (λ (n : ℕ). (q : ℕ) → lookup (nat_eq q) rest ≡ cond (nat_eq n q) None (lookup (nat_eq q) later)) now out
 
-  -- one goes, whose row was left behind
+  -- one goes, whose row wasn't copied
   pub one_gone : (p : Entry) (rest : Entries) → rest ≡ swap_remove later at p → IsLeftBehind kind starts forward row → ((q : ℕ) → lookup (nat_eq q) rest ≡ cond (nat_eq here.0 q) None (lookup (nat_eq q) later)) → AreFollowedTo kind starts forward notes rows rest at
   one_gone p rest gone left out = record {
     done = λ j d low in_rest.
@@ -315,7 +315,7 @@ followed_old kind starts forward (word ∷ words) full old numbered zero d low =
     subst (λ (other : Kind). IsOldPlace (place_in (followed_word (from_space other) starts forward word))) (sym full) (old full _ 0 (numbered zero word (omega arith)).inside)
 followed_old kind starts forward (word ∷ words) full old numbered (suc k) d low = followed_old kind starts forward words full old (λ i e inside. numbered (suc i) e (omega (arith, inside))) k d (omega (arith, low))
 
--- what holds of all cells holds of those behind the first ones
+-- what holds of all cells holds of those after the first ones
 behind_front : (P : Place → Type 0) (front young : List ℕ) → All P (map place_in (front ++ young)) → All (λ word. P (place_in word)) young
 behind_front P [] young all k e low =
     let d : Place = place_in 0 in

@@ -283,6 +283,6 @@ ready_way h rows from Walk is = is.none
 ready_way h rows from (Index at) is = is.here
 ready_way h rows from (New row) is = (is.none, is.index)
 
--- the index that stands there is ready for the change
+-- the index that is there is ready for the change
 pub ready_there : (rows inside : Indexes) → inside ≡ rows → (h : SpaceList) (from : Place) (way : Way) (at : ℕ) → way ≡ Index at → IsReadyToFollow h rows from way → IsReadyAt inside (name_at h from) at
 ready_there rows inside same h from way at is ready = subst (λ (s : Indexes). IsReadyAt s (name_at h from) at) (sym same) (subst (λ (w : Way). IsReadyToFollow h rows from w) is ready)

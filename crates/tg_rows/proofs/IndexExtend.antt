@@ -68,7 +68,7 @@ module _ (h : SpaceList) (payloads : Payloads) (is : IsSpaceList h) (graph : IsG
   words : row_words after p ≡ row_words h p ++ word ∷ 0 ∷ 0 ∷ 0 ∷ 0 ∷ 0 ∷ []
   words = row_words_extended h payloads is graph p last q word object has ends_here free refers others
 
-  -- the new name stands right behind what there was
+  -- the new name is right after what there was
   puts : PutsAt (row_slots h p) (row_slots after p) (length (row_words h p)) (Some (name_in h word))
   puts = record {
     here =

@@ -115,7 +115,7 @@ module _ (h after : SpaceList) (is : IsSpaceList h) (after_is : IsSpaceList afte
       by_length (inr high) =
           get_or_past (row_words after r) m 0 (subst (λ l. l ≤ m) (sym long_kept) high) ∙ sym (get_or_past (row_words h r) m 0 high)
 
--- an index is told by what stands at each place
+-- an index is told by what is at each place
 pub index_same : (s : Slots) (row later : ℕ → Option ℕ) → ((n : ℕ) → later n ≡ row n) → IsIndexOf s row → IsIndexOf s later
 index_same s row later same is = record {
   numbers = λ name n. (λ e. same n ∙ (is.numbers name n).0 e, λ e. (is.numbers name n).1 (sym (same n) ∙ e));

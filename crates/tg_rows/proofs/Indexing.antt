@@ -56,7 +56,7 @@ module _ (h : SpaceList) (from at : Place) (left : ℕ) (names more : List (Opti
   list_ends none =
       (gather_ends h (λ ps. slots (words_of h ps)) from at left names more words are listed.0 split more_is none refl, gather_ends h (λ ps. ps) from at left cells next_cells words are listed.1 refl one_more none refl)
 
--- ---- no name stands at two places
+-- ---- no name is at two places
 
 -- what a place with a name refers to
 slot_tells : (h : SpaceList) (word name : ℕ) → name_referred h word ≡ Some name → (word ≢ 0) × (name_in h word ≡ name)

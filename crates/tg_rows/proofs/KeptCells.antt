@@ -1,4 +1,4 @@
--- The cells that a collection keeps: each stands at its new place, or where it was, with its references and its link moved.
+-- The cells that a collection keeps: each is at its new place, or where it was, with its references and its link moved.
 use Rattle.std.proofs.Common.{[], ◌≡◌, ◌≢◌, ℕ, ◌<◌, ◌≤◌, ◌+◌, ◌-◌, ◌⊎◌, ◌==◌, Bool, true, false, List, length, get_or, take, drop, map, refl, sym, ap, subst, arith, ◌∙◌, inl, inr, lit<, ⊎_elim, if◌then◌else◌, IsTrue}
 use Rattle.std.specs.List.{All, Contains}
 use Rattle.std.proofs.lemmas.List.{get_or_append_left, get_or-append_right, get_or-take, get_or-drop, get_or-map, length-take, length-take-le, length-drop, drop_at, take-map, length-map}
@@ -94,8 +94,8 @@ word_moved from h to word ne present inside = record {
 
 -- ---- kept cells
 
--- The kept cells of h are objects and chunks, and what they name is kept. Each stands in `after` where it goes, moved; no two go
--- to one place; and no other cell of `after` is in use.
+-- The kept cells of h are objects and chunks, and what they name is kept. Each is in `after` where it goes, moved; no two go to
+-- one place; and no other cell of `after` is in use.
 pub record Moves (from : ℕ → Bool) (h after : SpaceList) (to : ℕ → Place) (kept : Place → Type 0) : Type 0 where
   pub whole : IsSpaceList h
   pub whole_after : IsSpaceList after
@@ -137,7 +137,7 @@ module _ {from : ℕ → Bool} {h after : SpaceList} {to : ℕ → Place} {kept 
       by_kind (is_free is _) = let used = move.used p keep in absurd (omega (arith, free_zero (cell_at h p) is 0))
       by_kind (is_bad is) = absurd (subst (λ (kind : CellKind). HasLayoutOf h (cell_at h p) kind) is (kept_layout p keep))
 
-  -- an object's references and link stand from word 4 on, a chunk's from word 1 on
+  -- an object's references and link are from word 4 on, a chunk's from word 1 on
   object_first : (p : Place) → kind_of (cell_at h p) ≡ Object → first_pointer (get_or (cell_at h p) 0 0) ≡ 4
   object_first p is = ap first_pointer ((object_tagged (cell_at h p)).0 is)
 

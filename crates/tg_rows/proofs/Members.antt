@@ -79,7 +79,7 @@ module _ {X : Type 0} where
   All-right P xs ys all k d low =
       subst P (get_or-append-add xs ys k d) (all (length xs + k) d (omega (arith, length-append xs ys)))
 
--- what is found behind the first element is found in the whole list
+-- what is found after the first element is found in the whole list
 pub found_later : {X : Type 0} (P : X → Type 0) (y : X) (ys : List X) → (x : X) × Contains ys x × P x → (x : X) × Contains (y ∷ ys) x × P x
 found_later P y ys found = (found.0, Contains-more y ys found.0 found.1, found.2)
 

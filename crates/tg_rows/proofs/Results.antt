@@ -12,7 +12,7 @@ either_way (Err e) done refused f g = g refused
 pub ok_or_err : {T E : Type 0} (x : T) (e : E) → ◌≡◌ {A = Result T E} (Ok x) (Err e) → ⊥
 ok_or_err x e same = cc
 
--- want of memory isn't told as a full heap
+-- lack of memory isn't reported as a full heap
 pub memory_or_full : OutOfMemory ≡ HeapFull → ⊥
 memory_or_full same = cc
 

@@ -148,7 +148,7 @@ module _ (h : SpaceList) (name : ℕ) (from at : Place) (left : ℕ) (empty afte
           searched.last ∙ ap (last_of at) rest,
         )
 
--- what an ended search tells is where a new reference may be put
+-- what an ended search shows is where a new reference may be put
 pub spot_is : (h : SpaceList) (name : ℕ) (from at : Place) (ps : List Place) (empty : Option (Place × ℕ)) → word_where (refers_to h name) h (from ∷ ps) ≡ None → word_where is_empty h (from ∷ ps) ≡ empty → last_of from ps ≡ at → IsSpotIn h name from ps (spot_for_new empty at)
 spot_is h name from at ps None none places last = (none, places, last)
 spot_is h name from at ps (Some e) none places last = (none, places)

@@ -50,7 +50,7 @@ pub record IsPlaceOf (cells : List Place) (n : ℕ) (e : Place × ℕ) : Type 0 
 abbrev pub IsOldPlace : Place → Type 0
 IsOldPlace p = from_space Nursery p.space ≡ false
 
--- Of the cells of the row, as many first ones lie in Old as are known to, and marks stand at these alone.
+-- Of the cells of the row, as many first ones lie in Old as are known to, and marks are at these alone.
 pub record IsAged (row : IndexedRow) : Type 0 where
   pub within : row.old_cells ≤ length row.cells.items
   pub cells : All IsOldPlace (take row.old_cells row.cells.items)
@@ -74,13 +74,13 @@ AreIndexed h remembered rows = (name : ℕ) (row : IndexedRow) → lookup (nat_e
 
 -- ---- what a collection makes of indexes
 
--- The index is that of the same row once each of its cells was followed; the object of the row isn't left behind.
+-- The index is that of the same row once each of its cells was followed; the object of the row was copied.
 pub record IsFollowedTo (kind : Kind) (starts forward : List ℕ) (row followed : IndexedRow) : Type 0 where
   pub names : followed.names ≡ row.names
   pub cells : followed.cells.items ≡ map (followed_place (from_space kind) starts (new_place forward)) row.cells.items
   pub copied : (p : Place) → slice_get row.cells.items 0 ≡ Some p → from_space kind p.space ≡ true → slice_index forward (number_by starts p) ≢ 0
 
--- the object of the row was left behind
+-- the object of the row wasn't copied
 pub record IsLeftBehind (kind : Kind) (starts forward : List ℕ) (row : IndexedRow) : Type 0 where
   pub object : Place
   pub first : slice_get row.cells.items 0 ≡ Some object
@@ -108,14 +108,14 @@ abbrev pub AreFollowable : Kind → List ℕ → ℕ → List Place → List (�
 AreFollowable kind starts words notes rows =
     (name : ℕ) (row : IndexedRow) → lookup (nat_eq name) rows ≡ Some row → IsFollowable starts words (known_notes kind notes) row
 
--- The index comes from the one that stood under the name, whose row isn't left behind. These cells are to be remembered.
+-- The index comes from the one that stood under the name, whose row was copied. These cells are to be remembered.
 pub record IsFollowed (kind : Kind) (starts forward : List ℕ) (notes : List Place) (rows : List (ℕ × IndexedRow)) (name : ℕ) (followed : IndexedRow) : Type 0 where
   pub row : IndexedRow
   pub was : lookup (nat_eq name) rows ≡ Some row
   pub to : IsFollowedTo kind starts forward row followed
   pub marked : IsMarked notes followed
 
--- each of the later indexes comes from the one that stood under its name, and one is missing only where its row was left behind
+-- each of the later indexes comes from the one that stood under its name, and one is missing only where its row wasn't copied
 pub record AreFollowed (kind : Kind) (starts forward : List ℕ) (notes : List Place) (rows later : List (ℕ × IndexedRow)) : Type 0 where
   pub each : (name : ℕ) (followed : IndexedRow) → lookup (nat_eq name) later ≡ Some followed → IsFollowed kind starts forward notes rows name followed
   pub kept : (name : ℕ) (row : IndexedRow) → lookup (nat_eq name) rows ≡ Some row → IsSome (lookup (nat_eq name) later) ⊎ IsLeftBehind kind starts forward row
@@ -158,7 +158,7 @@ pub record AreAged (rows : List (ℕ × IndexedRow)) (old : ℕ) : Type 0 where
   pub each : All (λ e. IsAged e.1) rows
   pub first : All (λ e. IsOldRow e.1) (take old rows)
 
--- the index of the row of the vertex with this name stands at the place
+-- the index of the row of the vertex with this name is at the place
 pub record HasIndexAt (rows : List (ℕ × IndexedRow)) (name at : ℕ) : Type 0 where
   pub row : IndexedRow
   pub here : slice_get rows at ≡ Some (name, row)

@@ -1,4 +1,4 @@
--- What the calls on rows ask for and promise. No other crate cites it: who wants to believe the store needn't read it.
+-- What the calls on rows ask for and promise. No other crate cites it: a reader who checks the store needn't read it.
 pub mod Cells
 pub mod Followed
 pub mod Following

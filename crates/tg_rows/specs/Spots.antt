@@ -1,4 +1,4 @@
--- Where the reference to a name stands in a row, or where it may be put.
+-- Where the reference to a name is in a row, or where it may be put.
 use Rattle.std.specs.Prelude.{[], ◌≡◌, ℕ, ◌+◌, ◌<◌, ◌&&◌, if◌then◌else◌, ◌==◌, not, Bool, true, List, ◌∷◌, Option, Some, None, length, option_map, position, slice_index, IfSome}
 use Rattle.std.specs.Option.{option_or}
 use Rattle.tg_rights.specs.RightSet.{RightSet, is_none_held, minus, union}
@@ -156,8 +156,8 @@ table_taken t (Reference cell index) rights = word_put t cell index (narrowed (s
 table_taken t (Empty cell index) rights = t
 table_taken t (Full last) rights = t
 
--- Rights over the vertex with a name were taken where they stand in the row of the object at a place, and nothing else was written:
--- a reference that has none left leaves an empty place, and each chunk stays where it was linked.
+-- Rights over the vertex with a name were taken where they are in the row of the object at a place, and nothing else was written: a
+-- reference that has none left leaves an empty place, and each chunk stays where it was linked.
 pub record IsTakenFromRow (old new : SpaceTable) (from : Place) (name : ℕ) (rights : RightSet) : Type 0 where
   pub spot : Spot
   pub found : IsSpotFor old.spaces name from spot
@@ -187,7 +187,7 @@ pub record CanRewrite (t : SpaceTable) (cell : Place) (index : ℕ) : Type 0 whe
   pub can : CanWrite t cell index
   pub place : IsPlace (place_in (slice_index (cell_at t.spaces cell) index))
 
--- a chunk may come behind the last cell of a row
+-- a chunk may come after the last cell of a row
 pub record CanExtend (t : SpaceTable) (n : ℕ) (last : Place) : Type 0 where
   pub few : n < MAX_NURSERIES
   pub nursery : nursery_space n < length t.spaces

@@ -1,4 +1,4 @@
-//! The graph in the cells: what one change writes.
+//! What one change writes to the graph in the cells.
 ghost use Rattle.std.specs.Prelude.{◌≡◌, ◌+◌, ◌<◌, ◌≤◌, ◌⊎◌, ◌↔◌, ℕ, List, true, length, slice_index, slice_set, Err, IfOk, IfSome, IsOk, None, OnErr, OnOk, Some, option_map};
 ghost use Rattle.std.specs.List.{Contains};
 ghost use Rattle.tg_word.specs.declared.Place.{Place};
@@ -155,8 +155,8 @@ impl<P: Payload> Cells<P> {
     }
 
     /// Gives one object rights over another, at the spot for them, and notes the written cell if it has to be
-    /// remembered. Growth comes first, that of the spaces last: where it is refused, there may be room for one more
-    /// note, and else nothing is changed.
+    /// remembered. Growth comes first, and that of the spaces last. If it is refused, there may be room for one more
+    /// note, and nothing else is changed.
     pub fn put_edge(
         &mut self,
         nursery: u64,

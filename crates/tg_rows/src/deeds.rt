@@ -1,5 +1,5 @@
-//! The graph in the cells, where some rows have an index: each call goes by the index of the row, if it has one, and
-//! else walks.
+//! The graph in the cells, in which some rows have an index. Each call uses the index of the row if it has one, and
+//! walks otherwise.
 ghost use Rattle.std.specs.Prelude.{◌≡◌, ◌<◌, List, None, nat_eq, Err, IfOk, IsTrue};
 ghost use Rattle.tg_word.specs.declared.Place.{Place as PlaceOf};
 ghost use Rattle.tg_block.specs.declared.CellKind.TheVariants.{Object};
@@ -52,8 +52,8 @@ impl<P: Payload> Cells<P> {
         }
     }
 
-    /// How the row of an object is looked along for a change. Its index has room for that then: its own, or a new one
-    /// where the row may get long. Where memory was refused, no name has another index.
+    /// How the row of an object is looked along for a change. Its index then has room for the change. It is the row's
+    /// own index, or a new index if the row may get long. Where memory was refused, no name has another index.
     #[inline(always)]
     fn way_to_change(&self, rows: &mut LongRows, from: Place) -> Result<Way, AllocError>
         requires { CanLook self.now rows.old from }
@@ -67,7 +67,7 @@ impl<P: Payload> Cells<P> {
         Ok(Way::Index(at))
     }
 
-    // The same where the row has no index.
+    // How a row without an index is looked along for a change.
     fn way_unindexed(&self, rows: &mut LongRows, from: Place) -> Result<Way, AllocError>
         requires row { HasObject self.now from }
         requires none { lookup (nat_eq (name_at self.now.spaces.spaces from)) rows.old.entries ≡ None }
@@ -83,8 +83,8 @@ impl<P: Payload> Cells<P> {
         Ok(Way::New(Box::new(self.alloc, row)?))
     }
 
-    // What follows in the indexes where rights over the vertex with a name were put at the spot for it in a row, which
-    // was looked along so. The row has an index then, if it is long.
+    // Updates the indexes after rights over the vertex with a name were put at its spot in a row. The spot was found by
+    // `way`. The row has an index then, if it is long.
     #[inline(always)]
     fn follow(&self, rows: &mut LongRows, way: Way, put: RowPut)
         requires { AreBehind self.now.spaces self.now.remembered.places rows.old way put.from put.name put.spot put.note }
@@ -126,7 +126,7 @@ impl<P: Payload> Cells<P> {
         requires { LooksForNew self.now rows.now way.now from name }
         ensures { HasSpot self.now from name result }
     {
-        // It tells what holds of all spaces (`IsSpaceTable`).
+        // It shows what holds of all spaces (`IsSpaceTable`).
         let _ = self.spaces.blocks();
         match way {
             Way::Walk => find_spot(&self.spaces, from, name),
@@ -149,7 +149,7 @@ impl<P: Payload> Cells<P> {
     }
 
     /// Gives one object rights over another, and notes the written cell if it has to be remembered. Growth comes first,
-    /// that of the spaces last: where it is refused, there may be room for one more note, and else nothing is changed.
+    /// and that of the spaces last. If it is refused, there may be room for one more note, and nothing else is changed.
     /// The row has an index then, if it is long.
     pub fn add_edge(
         &mut self,
@@ -200,8 +200,8 @@ impl<P: Payload> Cells<P> {
         }
     }
 
-    // What follows in the index of a row, which was looked along so, where the reference to the vertex with a name lost
-    // rights and is this word now.
+    // Updates the index of a row, in which the reference to the vertex with a name lost rights and is this word now.
+    // The reference was found by `way`.
     fn forget(&self, rows: &mut LongRows, way: Way, name: u64, word: u64)
         requires { AreUncleared self.now.spaces self.now.remembered.places rows.old.entries way name word }
         ensures { KeepsIndexed self.now rows.old rows.new }

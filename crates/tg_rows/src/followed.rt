@@ -1,5 +1,5 @@
-//! What a collection does to the indexes of rows. The blocks of from-space may be gone by then: cells are told by their
-//! numbers (`Moves`).
+//! What a collection does to the indexes of rows. The blocks of from-space may be gone by then, so cells are named by
+//! their numbers (`Moves`).
 ghost use Rattle.std.specs.Prelude.{◌≡◌, ◌≢◌, ◌≤◌, ◌<◌, ℕ, List, Some, length, map, slice_get, take, OnErr, OnOk};
 ghost use Rattle.std.specs.List.{All};
 ghost use Rattle.indexmap.specs.IndexMap.{index_map_len, values};
@@ -26,7 +26,7 @@ use tg_word::place_of;
 // What became of a row in a collection.
 #[derive(Clone, Copy)]
 enum Fate {
-    // It was left behind.
+    // The row wasn't copied.
     Gone,
     // It may have cells outside Old, or marked ones.
     Young,
@@ -52,7 +52,7 @@ impl LongRows {
     }
 }
 
-// Follows the rows behind the first `old` ones. The answer is how many lie in Old whole now.
+// Follows the rows after the first `old` ones. The answer is how many lie in Old whole now.
 fn follow_rows(
     moves: Moves,
     noted: &Remembered,
@@ -65,7 +65,7 @@ fn follow_rows(
     ensures followed { AreFollowed moves.entry.kind moves.entry.numbering.now.starts moves.entry.forward.now.words noted.now.places rows.old.entries rows.new.entries }
     ensures aged { AreAged rows.new.entries result }
 {
-    // It tells that no name stands there twice.
+    // This call shows that no name is there twice.
     let _ = rows.len();
     let mut old = first;
     let mut i = first;
@@ -83,7 +83,7 @@ fn follow_rows(
     old
 }
 
-// The index at a place of the map becomes that of the row's copy, unless the row was left behind.
+// The index at a place of the map becomes that of the row's copy, unless the row wasn't copied.
 fn follow_row_at(
     moves: Moves,
     noted: &Remembered,
@@ -100,7 +100,7 @@ fn follow_row_at(
     }
 }
 
-// The index becomes that of the row's copy, unless the row was left behind.
+// The index becomes that of the row's copy, unless the row wasn't copied.
 fn follow_row(moves: Moves, noted: &Remembered, row: &mut IndexedRow) -> Fate
     requires { CanFollow moves.kind moves.numbering.now.starts moves.forward.now.words noted.now.places row.old }
     ensures gone { result ≡ Fate.Gone → IsLeftBehind moves.entry.kind moves.entry.numbering.now.starts moves.entry.forward.now.words row.old }
@@ -139,7 +139,7 @@ fn forget_moved(kind: Kind, row: &mut IndexedRow)
     }
 }
 
-// Follows the cells behind the first ones, which stay where they are. The answer is how many of the first lie in Old
+// Follows the cells after the first ones, which stay where they are. The answer is how many of the first lie in Old
 // now.
 fn follow_cells(moves: Moves, cells: &mut RowCells, first: usize) -> usize
     requires { CanFollowCells moves.kind moves.numbering.now.starts moves.forward.now.words first cells.old.items }

@@ -1,4 +1,4 @@
-//! The index of a row: where the reference to each name stands, with no walk. See 'Rows and their indexes' in
+//! The index of a row. It finds the reference to each name without a walk. See 'Rows and their indexes' in
 //! docs/inside/ARCHITECTURE.md.
 ghost use Rattle.std.specs.Prelude.{◌≡◌, ◌≢◌, ℕ, Option, Some, None, IsSome, ◌+◌, ◌*◌, ◌^◌, ◌<◌, ◌≤◌, length, slice_index_or, IfSome, OnOk};
 ghost use Rattle.tg_word.specs.declared.Place.{Place};
@@ -22,7 +22,7 @@ const CHUNK_REFERENCES: usize = LINK - CHUNK_POINTERS;
 // How many references fewer an object has than a chunk.
 const FEWER_IN_OBJECT: usize = OBJECT_POINTERS - CHUNK_POINTERS;
 
-/// The index of one row: its names by the numbers of their places, and its cells in chain order.
+/// The index of one row. It has its names by the numbers of their places, and its cells in chain order.
 #[derive(Drop)]
 pub struct IndexedRow {
     /// Its names, by the numbers of their places.
@@ -31,7 +31,7 @@ pub struct IndexedRow {
     pub cells: RowCells,
     /// How many of the first cells are known to be in Old.
     pub old_cells: usize,
-    /// The numbers of those among them that may be remembered: no other one of them names a young cell.
+    /// The numbers of the cells among them that may be remembered. No other cell of the row names a young cell.
     pub noted: NumberSet,
 }
 
@@ -132,7 +132,7 @@ pub(crate) fn find_indexed(spaces: &Spaces, row: &IndexedRow, from: Place, name:
     requires { IsSoundIndex spaces.now.spaces from row.now }
     ensures { IsSpotOf spaces.now from name result }
 {
-    // It tells what holds of all spaces, and that their cells are few.
+    // It shows what holds of all spaces, and that their cells are few.
     let _ = spaces.cells();
     if let Some(number) = row.names.find(name) {
         let (cell, index) = place_of_number(&row.cells, number);
@@ -147,7 +147,7 @@ pub(crate) fn spot_for_new(spaces: &Spaces, row: &IndexedRow, from: Place, name:
     requires { IsSoundIndexWithout spaces.now.spaces from name row.now }
     ensures { IsSpotOf spaces.now from name result }
 {
-    // It tells what holds of all spaces, and that their cells are few.
+    // It shows what holds of all spaces, and that their cells are few.
     let _ = spaces.cells();
     if let Some(number) = row.names.first_empty() {
         let (cell, index) = place_of_number(&row.cells, number);
@@ -163,7 +163,7 @@ fn place_of_number(cells: &RowCells, number: u64) -> (Place, usize)
     requires { number + FEWER_IN_OBJECT < length cells.now.items * CHUNK_REFERENCES }
     ensures { IsPlaceOf cells.now.items number result }
 {
-    // It tells that the cells are few.
+    // This call shows that the cells are few.
     let _ = cells.len();
     let number = number as usize + FEWER_IN_OBJECT;
     (

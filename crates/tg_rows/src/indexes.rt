@@ -13,7 +13,7 @@ use indexmap::IndexMap;
 use std::alloc::{AllocError, Global};
 use std::marker::Model;
 
-// Of how many first names it is kept where the index stood last.
+// For how many first names the last place of the index is kept.
 const HINTS: usize = 64;
 
 /// How the row of an object is looked along.
@@ -34,8 +34,8 @@ pub struct LongRows {
     pub(crate) indexes: IndexMap<u64, IndexedRow>,
     // How many rows are known to lie in Old whole.
     pub(crate) old_rows: usize,
-    // Where the index of each of the first names stood last, so that its name needn't be looked up. It may stand
-    // elsewhere by now, so it is asked for its name.
+    // Where the index of each of the first names was last, so that its name needn't be looked up. The index may be
+    // elsewhere by now, so its name is compared.
     hints: [usize; HINTS],
 }
 
@@ -81,7 +81,7 @@ impl LongRows {
         }
     }
 
-    // The same, where it stands there still.
+    // The place that is kept for the index of a row, if the index is still there.
     #[inline(always)]
     fn hinted(&self, name: u64) -> Option<usize>
         ensures { IfSome result (HasIndexAt self.now.entries name) }
@@ -91,7 +91,7 @@ impl LongRows {
         if *key == name { Some(at) } else { None }
     }
 
-    // Keeps where the index of the row of the vertex with a name stands.
+    // Keeps where the index of the row of the vertex with a name is.
     #[inline(always)]
     fn keep_hint(&mut self, name: u64, at: usize)
         ensures { self.new ≡ self.old }
@@ -113,8 +113,8 @@ impl LongRows {
         }
     }
 
-    /// Moves the index of the row of the vertex with a name to those of rows that may have young cells, if the row has
-    /// an index. Returns the place of the index then. Takes no memory.
+    /// Moves the index of the row of the vertex with a name, if the row has one. The index goes to the indexes of rows
+    /// that may have young cells. Returns the place of the index then. Takes no memory.
     #[inline(always)]
     pub(crate) fn young_place(&mut self, name: u64) -> Option<usize>
         ensures young { IfSome result (λ at. self.new.old_rows ≤ at) }
@@ -128,7 +128,7 @@ impl LongRows {
         Some(at)
     }
 
-    /// Makes room for one more name and one more cell in the index at this place, which is that of the row of the
+    /// Makes room for one more name and one more cell in the index at this place. It is the index of the row of the
     /// vertex with a name. The index is among those of rows that may have young cells.
     pub(crate) fn reserve_at(&mut self, name: u64, at: usize) -> Result<(), AllocError>
         requires there { HasIndexAt self.old.entries name at }

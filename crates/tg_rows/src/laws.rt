@@ -1,8 +1,8 @@
-//! Laws of the definitions: no code, each a function whose contract is the law.
+//! Laws of the definitions. There is no code. Each law is the contract of a function.
 ghost use Rattle.std.specs.Prelude.{◌≡◌};
 ghost use Rattle.tg_rows.specs.declared.rows.TheConstants.{SHORT};
 
-/// From how many cells on a row is long, as a number: a row of more than four cells has an index.
+/// From how many cells on a row is long, as a number. A row of more than four cells has an index.
 pub fn short_rows_have_four_cells()
     ensures { SHORT ≡ 4 }
 {}

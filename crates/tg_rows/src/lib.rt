@@ -1,4 +1,4 @@
-//! Rows of vertices in the cells of a heap: their references, and the indexes of long rows.
+//! Rows of vertices in the cells of a heap. They have references, and long rows have indexes.
 //!
 //! A vertex is an object. An object is a cell with the vertex's name, the key of what it stores, and references. The
 //! row of a vertex is its own cell and the chunks that its link leads to, one after the other:

@@ -6,7 +6,7 @@ use std::alloc::AllocError;
 use std::marker::Model;
 use tg_word::{Place, place_of};
 
-/// The cells of a row, in chain order: of each the link to it, or another word that names it.
+/// The cells of a row, in chain order. Each is given by the link to it, or another word that names it.
 #[derive(Drop)]
 pub struct RowCells {
     // Only their places count.

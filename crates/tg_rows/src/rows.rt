@@ -159,8 +159,8 @@ fn spot_for_new(empty: Option<(Place, usize)>, last: Place) -> Spot
     }
 }
 
-/// The references of the row of an object: the name of each target with the label, in chain order. Fails only when
-/// out of memory.
+/// The references of the row of an object. They are the name of each target with the label, in chain order. Fails only
+/// when out of memory.
 #[inline(always)]
 pub(crate) fn edges_of(
     alloc: Global,

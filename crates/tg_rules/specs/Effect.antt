@@ -1,4 +1,4 @@
--- What a command does that is served, and how a refused growth is told.
+-- What a command does that is served, and how a refused growth is reported.
 use Rattle.std.specs.Prelude.{◌≡◌, ◌↔◌, ℕ, ◌<◌, List, Option, Result, OnErr, OnOk}
 use Rattle.tg_rights.specs.RightSet.{RightSet}
 use Rattle.tg_model.specs.declared.value.Value.{Value}

@@ -1,4 +1,4 @@
--- What the laws of decisions and steps say of a content and the graph that it stands for: words that no other contract needs.
+-- What the laws of decisions and steps say of a content and the graph that it represents: words that no other contract needs.
 use Rattle.std.specs.Prelude.{◌≡◌, ◌⊎◌, ◌<◌, ◌≤◌, ℕ, List, Option, None, Some, length}
 use Rattle.tg_rights.specs.RightSet.{RightSet}
 use Rattle.tg_model.specs.Graph.{ProtectionGraph, IsSubject, IsSound, with_rights}
@@ -17,7 +17,7 @@ use Rattle.tg_rules.specs.Effect.{IsReplyOn, IsContentAfter}
 
 -- ---- a content and a subject
 
--- the content stands for the graph, of which x is a subject
+-- the content represents the graph, of which x is a subject
 pub record StandsForSubject (c : Content) (g : ProtectionGraph) (x : ℕ) : Type 0 where
   pub content : IsContentOf c g
   pub subject : IsSubject g x
@@ -56,7 +56,7 @@ RefusesAsContent c g x =
 
 -- ---- steps
 
--- where a command of x is served, the content after it stands for the next graph
+-- where a command of x is served, the content after it represents the next graph
 abbrev pub ServesAsContent : Content → ProtectionGraph → ℕ → Type 0
 ServesAsContent c g x =
     (new : Content) (command : Command) → denial_on c x command ≡ None → IsContentAfter c new x command → IsContentOf new (step g x (Plain command))
@@ -71,7 +71,7 @@ abbrev pub HasOneMore : Content → Content → ℕ → ℕ → RightSet → Val
 HasOneMore old new x name label value =
     IsContent new (λ y. IsNamed old y ⊎ (y ≡ name)) (with_rights old.label x name label) (with_value old.value name value)
 
--- where x makes an object, the content with the graph's next name stands for the next graph
+-- where x makes an object, the content with the graph's next name represents the next graph
 abbrev pub CreatesAsContent : Content → ProtectionGraph → ℕ → Type 0
 CreatesAsContent c g x =
     (new : Content) (label : RightSet) (law : Law) (state : List ℕ) →
@@ -84,7 +84,7 @@ SpawnsAsContent c g x =
     g.made < g.limit → length g.subjects < MAX_WORKERS →
     HasOneMore c new x g.made label (record { law = law; state = state }) → IsContentOf new (step g x (Spawn label law state))
 
--- where no more vertices may be made, the same content stands for the next graph
+-- where no more vertices may be made, the same content represents the next graph
 abbrev pub StaysWhereFull : Content → ProtectionGraph → ℕ → Type 0
 StaysWhereFull c g x =
     (new : Content) (label : RightSet) (law : Law) (state : List ℕ) →

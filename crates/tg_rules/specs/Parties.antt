@@ -15,7 +15,7 @@ owner_of_row x (Grant rights y z) = y
 owner_of_row x (Inspect y) = y
 owner_of_row x command = x
 
--- the vertex that stands last behind the word, or x where none does
+-- the vertex that is last after the word, or x where none does
 abbrev pub last_behind : ℕ → Arguments → ℕ
 last_behind x Bare = x
 last_behind x (Target y) = y

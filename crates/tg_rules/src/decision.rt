@@ -147,7 +147,7 @@ pub fn find_receiver<P: Payload>(
     })
 }
 
-// The checks of a command that wants only rights of the worker over its target.
+// The checks of a command that needs only rights of the worker over its target.
 #[inline(always)]
 fn check_use<P: Payload>(
     heap: &Heap<P>,
@@ -191,7 +191,7 @@ fn check_distinct(rule: Rule, same: bool) -> Result<(), Denial>
     Ok(())
 }
 
-// Denies a command that wants rights of one vertex over another, where they are missing. Else it answers that other.
+// Denies a command that needs rights of one vertex over another, if they are missing. Else it answers that other.
 #[inline(always)]
 fn check_held<P: Payload>(
     heap: &Heap<P>,
@@ -214,7 +214,7 @@ fn check_held<P: Payload>(
     }
 }
 
-// Denies a command that wants a log, where the vertex stores something else.
+// Denies a command that needs a log, if the vertex stores no log.
 #[inline(always)]
 fn check_log<P: Payload>(heap: &Heap<P>, rule: Rule, target: Vertex) -> Result<(), Denial>
     requires { HasVertex heap.now target }
@@ -229,7 +229,7 @@ fn check_log<P: Payload>(heap: &Heap<P>, rule: Rule, target: Vertex) -> Result<(
     })
 }
 
-// The denial for want of these rights.
+// The denial for lack of these rights.
 fn missing(rule: Rule, from: u64, to: u64, rights: Rights) -> Denial
     ensures { result ≡ record { rule = rule; cause = Cause.Missing rights from to } }
 {

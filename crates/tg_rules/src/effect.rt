@@ -24,8 +24,8 @@ use tg_subjects::Subject;
 /// subjects stay.
 ///
 /// It is refused when out of memory. A take or a grant is also refused if it needs a new reference for which there is
-/// no cell. Then the reference isn't there yet, the row has no empty place for it, and the nursery of the worker has no
-/// cell left and gets no more blocks. A refused call changes nothing.
+/// no cell. Then the reference isn't there yet, and the row has no empty place for it. The nursery of the worker has no
+/// cell left, and gets no more blocks. A refused call changes nothing.
 pub fn perform<P: Payload>(
     heap: &mut Heap<P>,
     worker: u64,
@@ -62,8 +62,8 @@ pub fn only_looks(command: &Command) -> bool
     )
 }
 
-/// Answers a command of a subject that only looks, from the vertices that its checks met: what [`perform`] does,
-/// without looking anything up again. It is refused where memory was.
+/// Answers a command of a subject that only looks, from the vertices that its checks met. It does what [`perform`]
+/// does, without looking anything up again. It is refused where memory was.
 #[inline(always)]
 pub fn look_between<P: Payload>(
     heap: &Heap<P>,
@@ -83,8 +83,8 @@ pub fn look_between<P: Payload>(
     }
 }
 
-/// Performs a command of a subject that changes something, between the vertices that its checks met: what [`perform`]
-/// does, without looking anything up again. The reply to such a command is that it is done.
+/// Performs a command of a subject that changes something, between the vertices that its checks met. It does what
+/// [`perform`] does, without looking anything up again. The reply to such a command is that it is done.
 #[inline(always)]
 pub fn change_between<P: Payload>(
     heap: &mut Heap<P>,

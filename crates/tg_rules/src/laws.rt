@@ -1,9 +1,9 @@
-//! Laws of decisions and steps on a content, against the graph that it stands for. A function here does nothing: what
+//! Laws of decisions and steps on a content, against the graph that it represents. A function here does nothing: what
 //! it ensures is the law.
 //!
-//! So who decides on a heap by its content, and changes the content as the rules say, answers what the graph that was
-//! never collected answers, and goes on as it does. The proofs of the crates above cite the lemmas behind the laws,
-//! which stand in `proofs/StandingLaws.antt` of `tg_graph`.
+//! So a store may decide on a heap by its content, and change the content as the rules say. It then answers as the
+//! graph that was never collected does, and goes on as this graph does. The proofs of the crates above cite the lemmas
+//! from which the laws follow, which are in `proofs/StandingLaws.antt` of `tg_graph`.
 ghost use Rattle.std.specs.Prelude.{◌↔◌, ℕ};
 ghost use Rattle.tg_model.specs.Graph.{ProtectionGraph};
 ghost use Rattle.tg_model.specs.declared.command.Command.{Command};

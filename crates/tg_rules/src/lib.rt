@@ -1,4 +1,4 @@
-//! The rules, on a heap: whether a command of a worker is served, and what it then does.
+//! The rules, on a heap. They say whether a command of a worker is served, and what it then does.
 //!
 //! A heap has a content: names, labels and values (`Content` of `tg_graph`). [`decide`] returns for a command what the
 //! rules say on that content, and changes nothing. [`perform`] carries out a command that is served. It answers and

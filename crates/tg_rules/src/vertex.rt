@@ -8,7 +8,7 @@ use tg_payload::Payload;
 use tg_subjects::Subject;
 use tg_word::Place;
 
-/// A vertex of a heap: its name, and the place of its object.
+/// A vertex of a heap. It has its name, and the place of its object.
 #[derive(Clone, Copy, PartialEq, Eq, Debug)]
 pub(crate) struct Vertex {
     pub(crate) name: u64,

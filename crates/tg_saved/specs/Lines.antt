@@ -1,4 +1,4 @@
--- The text of each line of a snapshot's text, behind the first one.
+-- The text of each line of a snapshot's text, after the first one.
 use Rattle.std.specs.Prelude.{ℕ, List}
 use Rattle.tg_saved.specs.declared.line.SnapshotLine.{SnapshotLine}
 use Rattle.tg_saved.specs.declared.line.SnapshotLine.TheVariants as line

@@ -13,7 +13,7 @@ abbrev pub numbers_text : List ℕ → List ℕ
 numbers_text [] = []
 numbers_text (number ∷ numbers) = decimal number ++ flat_map more_text numbers
 
--- the numbers of a log, behind a colon where it has any
+-- the numbers of a log, after a colon where it has any
 abbrev pub logged_text : List ℕ → List ℕ
 logged_text [] = []
 logged_text (number ∷ numbers) = codes ":" ++ numbers_text (number ∷ numbers)

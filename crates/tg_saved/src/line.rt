@@ -1,4 +1,4 @@
-//! The lines of a snapshot's text, and whether some bytes are one: what was read from them is written again, and
+//! The lines of a snapshot's text, and whether some bytes are a line. What was read from them is written again, and
 //! compared.
 ghost use Rattle.std.specs.Prelude.{◌≡◌, ◌++◌, codes, decimal, IfOk, IsTrue};
 ghost use Rattle.tg_text.specs.Sinks.{Writes};
@@ -101,7 +101,7 @@ pub(crate) fn write_vertex<K: Sink>(sink: &mut K, vertex: &ShownVertex) -> Resul
     write_value_line(sink, &vertex.value)
 }
 
-// Writes what stands in front of the value.
+// Writes what is in front of the value.
 fn write_name<K: Sink>(sink: &mut K, name: u64) -> Result<(), WriteFailed>
     ensures { Writes (K.taken sink.old) (K.failures sink.old) (codes "vertex " ++ (decimal name ++ codes " ")) result
         (K.taken sink.new) (K.failures sink.new) }

@@ -82,7 +82,7 @@ impl ReadLines {
         self.add_subject(name)
     }
 
-    // The next subject: behind a vertex or an edge there is none.
+    // The next subject: after a vertex or an edge there is none.
     fn add_subject(&mut self, name: u64) -> Result<(), SnapshotLineFault>
         ensures { (text : List ℕ) → text ≡ lines_text self.old → OnOk result (text ++ subject_text name ≡ lines_text self.new) }
     {
@@ -95,7 +95,7 @@ impl ReadLines {
         }
     }
 
-    // The next vertex: behind an edge there is none.
+    // The next vertex: after an edge there is none.
     fn add_vertex(&mut self, vertex: ShownVertex) -> Result<(), SnapshotLineFault>
         ensures { (text : List ℕ) → text ≡ lines_text self.old → OnOk result (text ++ vertex_text vertex ≡ lines_text self.new) }
     {
@@ -170,7 +170,7 @@ fn line_of(why: SnapshotFault, subject_lines: u64, vertex_lines: u64) -> u64 {
     }
 }
 
-// The name of the next subject, which the line tells.
+// Reads the name of the next subject from the line.
 fn next_subject<L: Ledger>(again: &mut Written<L>, line: &[u8]) -> Result<u64, SnapshotLineFault>
     ensures { IfOk result (λ name. line.now ≡ subject_text name) }
 {
@@ -183,7 +183,7 @@ fn next_subject<L: Ledger>(again: &mut Written<L>, line: &[u8]) -> Result<u64, S
     Ok(name)
 }
 
-// The next vertex, which the line tells.
+// Reads the next vertex from the line.
 fn next_vertex<L: Ledger>(
     alloc: Global,
     again: &mut Written<L>,
@@ -200,7 +200,7 @@ fn next_vertex<L: Ledger>(
     Ok(vertex)
 }
 
-// The next edge, which the line tells.
+// Reads the next edge from the line.
 fn next_edge<L: Ledger>(again: &mut Written<L>, line: &[u8]) -> Result<Edge, SnapshotLineFault>
     ensures { IfOk result (λ edge. line.now ≡ edge_line_text edge) }
 {

@@ -1,4 +1,4 @@
-//! How lines are taken apart. Nothing here has to be believed: what is read is written again and compared.
+//! How lines are taken apart. Nothing here has to be believed, because what is read is written again and compared.
 
 use std::alloc::{AllocError, Global};
 use std::str;
@@ -73,7 +73,7 @@ pub fn read_value(alloc: Global, word: &str) -> Result<Option<Value>, AllocError
     }
 }
 
-// The law that begins with this letter, and which of the numbers behind it are stored.
+// The law that begins with this letter, and which of the numbers after it are stored.
 fn law_of<'a>(word: &str, numbers: &'a [u64]) -> Option<(Law, &'a [u64])> {
     match (word.as_bytes().first(), numbers) {
         (Some(b'c'), [_]) => Some((Law::Cell, numbers)),

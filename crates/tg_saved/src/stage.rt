@@ -20,7 +20,7 @@ pub enum SnapshotStage {
     Counts,
     /// A subject, a vertex, an edge, or the last one.
     Lines(ReadLines),
-    /// None: the last one came.
+    /// There is no next line, because the last line came.
     Whole(Snapshot),
 }
 
@@ -47,7 +47,7 @@ impl SnapshotStage {
     }
 }
 
-// What comes of a line behind the counts.
+// Reads a line after the counts.
 fn next_line<L: Ledger>(
     alloc: Global,
     again: &mut Written<L>,

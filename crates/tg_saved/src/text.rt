@@ -87,7 +87,7 @@ fn read_lines<L: Ledger>(
     Err(SnapshotTextFault::CutOff { line: u64::MAX })
 }
 
-// How many bytes the first line has, with its line feed; `None` if there is no line feed.
+// How many bytes the first line has, with its line feed. It is `None` if there is no line feed.
 fn line_len(bytes: &[u8]) -> Option<usize>
     ensures { IfSome result (λ len. len ≤ length bytes.now) }
 {
@@ -99,7 +99,7 @@ fn line_len(bytes: &[u8]) -> Option<usize>
     None
 }
 
-// What comes of the line of this number.
+// Reads the line of this number.
 fn next_stage<L: Ledger>(
     alloc: Global,
     again: &mut Written<L>,

@@ -40,7 +40,7 @@ fn write_log<K: Sink>(sink: &mut K, most: u32, state: &[u64]) -> Result<(), Writ
     write_logged(sink, state)
 }
 
-// Writes the numbers of a log, behind a colon where it has any.
+// Writes the numbers of a log, after a colon where it has any.
 fn write_logged<K: Sink>(sink: &mut K, state: &[u64]) -> Result<(), WriteFailed>
     ensures { Writes (K.taken sink.old) (K.failures sink.old) (logged_text state.now) result
         (K.taken sink.new) (K.failures sink.new) }
@@ -51,7 +51,7 @@ fn write_logged<K: Sink>(sink: &mut K, state: &[u64]) -> Result<(), WriteFailed>
     }
 }
 
-// Writes a text, and numbers behind it with a comma between two.
+// Writes a text, and numbers after it with a comma between two.
 fn write_numbers<K: Sink>(sink: &mut K, front: &[u8], numbers: &[u64]) -> Result<(), WriteFailed>
     ensures { Writes (K.taken sink.old) (K.failures sink.old) (front.now ++ numbers_text numbers.now) result
         (K.taken sink.new) (K.failures sink.new) }

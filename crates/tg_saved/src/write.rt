@@ -9,7 +9,7 @@ use tg_model::{Edge, Picture};
 use tg_snapshot::{ShownVertex, Snapshot};
 use tg_text::{Sink, WriteFailed, put_all};
 
-/// The first line: which form the text has.
+/// The first line, which says which form the text has.
 pub const SNAPSHOT_VERSION: &[u8] = b"kovshenul picture 1\n";
 
 /// Writes the text of a snapshot, or a front of it where the sink fails. Takes no memory.

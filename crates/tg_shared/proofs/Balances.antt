@@ -1,4 +1,4 @@
--- What an entry makes of the balance behind the lock.
+-- What an entry makes of the balance in the lock.
 use Rattle.std.proofs.Common.{◌≡◌, ℕ, ◌+◌, ◌^◌, ◌<◌, ◌≤◌, Bool, true, false, cond, List, ◌∷◌, ◌++◌, [], length, length-append, drop, refl, sym, subst, ap, ◌∙◌, arith}
 use Rattle.std.specs.Prelude.{Result, IfOk, OnOk, take}
 use Rattle.std.proofs.lemmas.List.{append-nil, length-take, take-append-le, drop-append-le, drop_all}
@@ -59,7 +59,7 @@ made_more start old new worker deed reply entry few =
     let last = spawned_one e in
     omega (arith, all, more, last)
 
--- ---- what more entries make of what is behind the lock
+-- ---- what more entries make of what is in the lock
 
 pub not_both : (b : Bool) → b ≡ true → b ≡ false → ⊥
 not_both b is isnt = cc
@@ -96,7 +96,7 @@ module _ (old new : StoreState) (more : List Entry) (entries : new.entries ≡ o
     whole = λ is_whole. handed is_whole ∙ on.whole is_whole;
   }
 
-  -- where no subject was made, what is so behind the lock stays so, but for one part, which its caller tells
+  -- where no subject was made, what is so in the lock stays so, but for one part, which its caller tells
   pub locked_more : {P Q R : Type 0} (start : SharedStart) (first sessions total next rest parts : ℕ) → IsBalanced old first sessions total rest parts × P × Q × GoesOn start old × (sessions ≡ sessions_made start old.entries)
       → spawned more ≡ 0 → new.heap.table.limits ≡ old.heap.table.limits → (start.in_parts ≡ false → new.handed ≡ old.handed) → next ≡ total + length more → R
       → IsBalanced new first sessions next rest parts × P × R × GoesOn start new × (sessions ≡ sessions_made start new.entries)

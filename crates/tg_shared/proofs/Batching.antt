@@ -1,4 +1,4 @@
--- A batch behind the lock, command by command, and what its session knows then.
+-- A batch in the lock, command by command, and what its session knows then.
 use Rattle.std.proofs.Common.{Bool, ◌≡◌, ◌≢◌, ◌⊎◌, inl, inr, ◌∙◌, ℕ, ◌+◌, ◌<◌, List, [], ◌∷◌, ◌++◌, Some, length, map, take, get_or, length-append, ap, arith, refl, subst, sym}
 use Rattle.std.proofs.lemmas.List.{append-nil}
 use Rattle.std.proofs.lemmas.Option.{slice_get-get_or, slice_get_within}
@@ -31,7 +31,7 @@ use Rattle.tg_shared.proofs.Leavings.{adds_one}
 use Rattle.tg_shared.proofs.Noting.{sign_more}
 use Rattle.tg_shared.proofs.Replies.{IsReady, refused_ready}
 
--- ---- behind the lock
+-- ---- in the lock
 
 pub served_none : (v : LockedState) (session : SessionState) → ServesAll [] v v session session
 served_none v session = record {

@@ -47,7 +47,7 @@ has_ended start v w old new worker count held after sees noted left number =
       next = noted.next;
     }
 
--- ---- behind the lock
+-- ---- in the lock
 
 -- the entries of an end, from their place on
 pub got_from : (old new : StoreState) (worker at : ℕ) → HasLeft worker old new → at ≡ length old.entries → drop at new.entries ≡ leaving (graph_of_store old) worker

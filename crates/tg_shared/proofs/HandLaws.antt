@@ -1,4 +1,4 @@
--- The entries that are made of a session's hand: their receipts, the store behind the lock, and what the session knows then.
+-- The entries that are made of a session's hand: their receipts, the store in the lock, and what the session knows then.
 use Rattle.std.proofs.Common.{◌≡◌, ◌≢◌, ◌↔◌, ◌⊎◌, ◌∙◌, ℕ, ◌+◌, ◌<◌, Bool, false, true, List, [], ◌∷◌, ◌++◌, Option, Some, None, Result, Ok, Err, length, length-append, add-zero, ap, arith, inl, inr, refl, subst, sym, ⊎_elim}
 use Rattle.std.specs.Prelude.{IfErr, IfOk}
 use Rattle.std.specs.List.{All}
@@ -141,7 +141,7 @@ some_handed : (h : Hand) (handed : Handed) → 0 < length (entries_handed h hand
 some_handed h (Done back) = omega arith
 some_handed h (Denied command denial) = omega arith
 
--- ---- behind the lock
+-- ---- in the lock
 
 pub hand_served : (hand : OwnHand) (h : Hand) (old new : StoreState) (before after : SessionState) (at : ℕ) (handed : Handed) → h ≡ hand_by before.worker hand → at ≡ length old.entries → ComesOfHand h old new handed
     → AddsReceipts before after at (entries_handed h handed) → (◌≡◌ {A = Result Handed ApplyFault} (Ok handed) (Err NoSuchWorker) ↔ (¬ IsSubject (graph_of_store old) h.via)) → ServesHand hand old new before after (Ok handed)

@@ -1,4 +1,4 @@
--- What a session and the keeper know of the store behind the lock, and what the roll has of it.
+-- What a session and the keeper know of the store in the lock, and what the roll has of it.
 use Rattle.std.proofs.Common.{◌≡◌, ◌≢◌, ◌⊎◌, ◌∙◌, ℕ, ◌+◌, ◌<◌, ◌≤◌, Bool, true, false, List, [], ◌∷◌, ◌++◌, length, map, drop, append_assoc, append-nil, length-append, ap, arith, inl, inr, refl, subst, sym, ⊎_elim}
 use Rattle.std.specs.List.{All}
 use Rattle.std.proofs.lemmas.List.{drop-append-le, drop_all, length-map, map_push}
@@ -28,7 +28,7 @@ use Rattle.tg_shared.proofs.Balances.{graph_more, graph_same, locked_as, not_bot
 use Rattle.tg_shared.proofs.Leavings.{legal_more}
 use Rattle.tg_shared.proofs.Staying.{behind_append, none_later, who_retired, who_stays}
 
--- ---- what is behind the lock
+-- ---- what is in the lock
 
 some_of : (all some more : ℕ) → all ≡ some + more → some ≤ all
 some_of all some more is = omega arith

@@ -1,4 +1,4 @@
--- The entries by which a worker leaves: their receipts, and what they make of the balance behind the lock.
+-- The entries by which a worker leaves: their receipts, and what they make of the balance in the lock.
 use Rattle.std.proofs.Common.{◌≡◌, ◌∙◌, ℕ, ◌+◌, ◌<◌, ◌^◌, Bool, true, List, [], ◌∷◌, ◌++◌, length, add-zero, length-append, map, append_assoc, refl, sym, ap, subst, arith}
 use Rattle.std.specs.List.{All}
 use Rattle.std.proofs.lemmas.List.{length-map}
@@ -103,7 +103,7 @@ none_spawned x (e ∷ row) =
     let first = sum_by-cons (λ y. one (is_spawn y)) (removal x e) (map (removal x) row ++ retiring x ∷ []) in
     omega (arith, first, rest)
 
--- what is so behind the lock stays so, but for one part, which its caller tells; each entry is counted
+-- what is so in the lock stays so, but for one part, which its caller tells; each entry is counted
 pub locked_left : (old new : StoreState) (x : ℕ) (left : HasLeft x old new) {P Q R : Type 0} (start : SharedStart) (first sessions total next rest parts : ℕ) → IsBalanced old first sessions total rest parts × P × Q × GoesOn start old × (sessions ≡ sessions_made start old.entries)
     → next ≡ total + (length (listing_of (graph_of_store old).label (graph_of_store old).made x) + 1) → R → IsBalanced new first sessions next rest parts × P × R × GoesOn start new × (sessions ≡ sessions_made start new.entries)
 locked_left old new x left start first sessions total next rest parts held counts told =

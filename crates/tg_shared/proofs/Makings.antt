@@ -1,4 +1,4 @@
--- What the answer of a make tells of its entry, and what is behind the lock then.
+-- What the answer of a make tells of its entry, and what is in the lock then.
 use Rattle.std.specs.Prelude.{IfOk, IfErr, IsErrAnd}
 use Rattle.std.proofs.Common.{◌≡◌, ◌≢◌, ℕ, ◌+◌, ◌∷◌, ◌∙◌, [], false, Option, Some, None, Result, Ok, Err, ap, refl, subst, sym}
 use Rattle.tg_rights.specs.RightSet.{RightSet}
@@ -97,7 +97,7 @@ pub signed_noted : (v : LockedState) (new : StoreState) (sessions entered : ℕ)
 signed_noted v new sessions entered before after roll next deed (Some reply) same entry rolled none = noted_as v new sessions entered before after roll next _ same (entry reply refl) (rolled reply refl)
 signed_noted v new sessions entered before after roll next deed None same entry rolled none = let told = none refl in noted_none v new sessions entered next.signed before after told.0 (ap (λ (r : RollState). r.signed) told.1 ∙ sym same) told.2
 
--- What is so behind the lock stays so where what was entered of a make is noted, and it made no subject.
+-- What is so in the lock stays so where what was entered of a make is noted, and it made no subject.
 pub locked_noted : {P Q : Type 0} {out : ℕ} (start : SharedStart) (old new : StoreState) (before after : SessionState) (first sessions total next rest parts : ℕ) (deed : Deed) (noted : Option Reply)
     → ((reply : Reply) → noted ≡ Some reply → Records old new before after deed reply × (next ≡ total + 1)) → (noted ≡ None → RecordsNothing old new before after × (next ≡ total))
     → ((reply : Reply) → noted ≡ Some reply → made_subject deed reply ≡ false) → new.opening ≡ old.opening → new.heap.table.limits ≡ old.heap.table.limits → new.handed ≡ old.handed

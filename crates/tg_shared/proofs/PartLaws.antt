@@ -12,7 +12,7 @@ use Rattle.tg_shared.specs.Receipts.{AreParts, MatchParts, MatchesFrom, Stands, 
 use Rattle.tg_shared.specs.Sessions.{KeptInParts, MatchesSince, SessionState, parts_of}
 use Rattle.tg_shared.proofs.Matching.{MatchFrom, held-is_from}
 
--- an entry at a place of a front stands there in the whole
+-- an entry at a place of a front is there in the whole
 in_whole : (entries : List Entry) (n at : ℕ) (e : Entry) → slice_get (take n entries) at ≡ Some e → slice_get entries at ≡ Some e
 in_whole entries n at e some =
     let inside = slice_get_within (take n entries) at e some in

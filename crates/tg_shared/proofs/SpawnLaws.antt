@@ -29,7 +29,7 @@ there true true g k n name here answer = here
 there true false g k n name here answer = let no : ⊥ = cc in absurd no
 there false c g k n name here answer = let no : ⊥ = cc in absurd no
 
--- who is named by a spawn is a subject behind it
+-- who is named by a spawn is a subject after it
 spawned_is : (g : ProtectionGraph) (x name : ℕ) (label : RightSet) (law : Law) (state : List ℕ) → answer_of g x (Spawn label law state) ≡ Name name → IsSubject (step g x (Spawn label law state)) name
 spawned_is g x name label law state answer =
     let next : name ≡ g.made = (name_is_next g x (Spawn label law state) name answer).0 in

@@ -68,7 +68,7 @@ gone_behind g w (e ∷ es) b sound legal before is =
     (sym (ap (retired_behind b) (own_there w e es other)) ∙ is))
     (cases_eq e.worker w)
 
--- a worker one of whose entries in a legal history is a retire is no subject behind it
+-- a worker one of whose entries in a legal history is a retire is no subject after it
 pub who_retired : (g : ProtectionGraph) (w : ℕ) (es : List Entry) → IsSound g → IsLegal g es → retired_behind false (own_entries w es) ≡ true → ¬ IsSubject (graph_after g es) w
 who_retired g w es sound legal is = gone_behind g w es false sound legal (λ no. let never : ⊥ = cc in absurd never) is
 
@@ -80,7 +80,7 @@ stays_by g x w (Spawn label law state) none here = spawn_cases g x (λ k. IsSubj
 stays_by g x w (Plain Retire) none here = (retired g x w).1 (here, λ is. let no : ⊥ = cc (none (sym is)) in absurd no)
 stays_by g x w (Plain command) none here = subst (λ (l : List ℕ). Contains l w) (sym (command-subjects g x command (λ is. let no : ⊥ = cc in absurd no))) here
 
--- a subject none of whose entries is a retire is one behind them
+-- a subject none of whose entries is a retire is one after them
 pub who_stays : (g : ProtectionGraph) (w : ℕ) (es : List Entry) → IsSubject g w → retired_behind false (own_entries w es) ≡ false → IsSubject (graph_after g es) w
 who_stays g w [] here none = here
 who_stays g w (e ∷ es) here none =

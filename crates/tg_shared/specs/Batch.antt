@@ -1,4 +1,4 @@
--- What a batch of commands does behind the lock, and what its session knows then.
+-- What a batch of commands does in the lock, and what its session knows then.
 use Rattle.std.specs.Prelude.{◌≡◌, ◌≢◌, ℕ, ◌+◌, ◌<◌, List, ◌++◌, length, take}
 use Rattle.tg_model.specs.declared.command.Command.{Command}
 use Rattle.tg_journal.specs.declared.entry.Entry.{Entry}
@@ -14,7 +14,7 @@ use Rattle.tg_store.specs.declared.fault.ApplyFault.{ApplyFault}
 use Rattle.tg_store.specs.declared.fault.ApplyFault.TheVariants.{OutOfMemory}
 use Rattle.tg_shared.specs.Sessions.{AddsReceipts, AtSeen, HasLooked, LockedState, SessionState, SharedStart, knowledge}
 
--- ---- behind the lock
+-- ---- in the lock
 
 -- The commands of a session's subject were taken. Exactly the receipts of their entries were added, at the places of the entries. The
 -- entries were noted as the session's, and a session that had seen all entries has seen these too.
@@ -29,7 +29,7 @@ pub record StopsServingAt (commands : List Command) (old new : LockedState) (bef
   pub served : ServesAll (take done commands) old new before after
   pub refused : IsRefusedAt before.worker commands new.store done why
 
--- a batch behind the lock stops at a command alone: who asks has looked how long it is
+-- a batch in the lock stops at a command alone: who asks has looked how long it is
 abbrev pub StopsServing : List Command → LockedState → LockedState → SessionState → SessionState → BatchFault → Type 0
 StopsServing commands old new before after TooLong = ⊥
 StopsServing commands old new before after (Stopped done why) = StopsServingAt commands old new before after done why

@@ -11,8 +11,8 @@ use Rattle.tg_shared.specs.declared.closing.LockedRefused.{LockedRefused}
 use Rattle.tg_shared.specs.declared.shared.CloseRefused.{CloseRefused}
 use Rattle.tg_shared.specs.Sessions.{AtSome, GoesOn, HasAllUnlessEnded, HasGrownBy, LockedState, MayCloseWith, SessionState, SharedStart, count_of, handed_of, knowledge, parts_of, sessions_made, since, subjects_at}
 
--- The store that comes back is the shared one, gone on, and keeps its promise. The receipts match its journal, which has grown by as many
--- entries at least.
+-- The store that comes back is the shared one, with later entries, and keeps its promise. The receipts match its journal, which has grown
+-- by as many entries at least.
 pub record IsGivenBack (start : SharedStart) (sessions : List SessionState) (store : StoreState) : Type 0 where
   pub matching : MayCloseWith start store sessions
   pub at_least : length start.entries + handed_of sessions + count_of sessions ≤ length store.entries
@@ -25,10 +25,10 @@ pub record IsSignedBy (start : SharedStart) (store : StoreState) (sessions : Lis
   pub grown : HasGrownBy start store signed
   pub sees : All (λ s. Sees signed (knowledge s)) sessions
 
--- What was behind the lock is the shared store, gone on. It is handed out where the receipts are right; else all that was handed in
--- comes back, the sessions perhaps in another order. Of a store that is handed out it is said who made each entry since the start.
--- Each single session whose worker the keeper did not end has receipts of all entries of its worker, if it handed out none and took
--- over nobody.
+-- What was in the lock is the shared store, with later entries. It is handed out where the receipts are right; else all that was
+-- handed in comes back, the sessions perhaps in another order. Of a store that is handed out it is said who made each entry since
+-- the start. Each single session whose worker the keeper did not end has receipts of all entries of its worker, if it handed out
+-- none and took over nobody.
 pub record EndsRound {L P : Type 0} (start : SharedStart) (locked : LockedState) (sessions : List SessionState) (result : Result StoreState (LockedRefused L P)) : Type 0 where
   pub gone_on : GoesOn start locked.store
   pub store : IfOk result (λ store. store ≡ locked.store)
@@ -37,12 +37,12 @@ pub record EndsRound {L P : Type 0} (start : SharedStart) (locked : LockedState)
   pub signed : OnOk result (IsSignedBy start locked.store sessions locked.signed)
   pub handed_back : IfErr result (λ refused. (refused.locked ≡ locked) × IsPermutation sessions refused.sessions.items)
 
--- The sessions may not close with some journal that may have been behind the lock. It has at least so many entries, and one for each
--- of their receipts.
+-- The sessions may not close with some journal that may have been in the lock. It has at least so many entries, and one for each of
+-- their receipts.
 abbrev pub MismatchAtSome : SharedStart → ℕ → List SessionState → Type 0
 MismatchAtSome start least sessions = AtSome start (λ s. (least + count_of sessions ≤ length s.entries) × (¬ MayCloseWith start s sessions))
 
--- A close hands the store out only if no session is missing. What it refuses is due of some journal that may have been behind the
+-- A close hands the store out only if no session is missing. What it refuses is due of some journal that may have been in the
 -- lock, and the sessions come back, perhaps in another order. Beside the receipts the journal has at least so many entries.
 pub record ClosesAll {L P : Type 0} (start : SharedStart) (least : ℕ) (sessions : List SessionState) (result : Result StoreState (CloseRefused L P)) : Type 0 where
   pub all : IfOk result (λ store. parts_of sessions ≡ sessions_made start store.entries)

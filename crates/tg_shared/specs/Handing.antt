@@ -1,4 +1,4 @@
--- What comes of rights that a session's subject hands on, and what its session knows then.
+-- The outcome of rights that a session's subject hands on, and what its session knows then.
 use Rattle.std.specs.Prelude.{◌≡◌, ◌↔◌, ℕ, ◌+◌, List, [], ◌∷◌, ◌++◌, Result, Err, IfOk, OnErr, length}
 use Rattle.tg_model.specs.declared.command.Deed.TheVariants.{Plain}
 use Rattle.tg_model.specs.declared.reply.Reply.TheVariants as reply
@@ -26,7 +26,7 @@ abbrev pub entries_handed : Hand → Handed → List Entry
 entries_handed h (Done back) = entries_of_hand h back
 entries_handed h (Denied command denial) = (record { worker = h.via; deed = Plain command; reply = reply.Denied denial }) ∷ []
 
--- ---- behind the lock
+-- ---- in the lock
 
 -- A session's subject asked the store for a hand. If it was done or denied, exactly the receipts of its entries were added, at the
 -- places of the entries. If it was refused, nothing changed.
@@ -41,8 +41,8 @@ pub record ServesHand (hand : OwnHand) (old new : StoreState) (before after : Se
 
 -- A session's subject handed rights on, or one command of the hand was denied. Exactly the receipts of its entries were added, at places
 -- that follow one another. The entries came next after these since the start, which the session sees: they begin with those that it had
--- seen, and its own among them are exactly those that it had made. Of a store that may have been behind the lock then, the hand made
--- another that may have been there next. The session has then seen the entries before and the new ones.
+-- seen, and its own among them are exactly those that it had made. Of a store that may have been in the lock then, the hand made another
+-- that may have been there next. The session has then seen the entries before and the new ones.
 pub record HandsAtSeen (start : SharedStart) (hand : OwnHand) (old new : SessionState) (handed : Handed) : Type 0 where
   pub before : List Signed
   pub sees : Sees before (knowledge old)

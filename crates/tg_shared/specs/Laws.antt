@@ -35,7 +35,7 @@ pub record AreKeptInParts (entries : List Entry) (first : ℕ) (sessions : List 
   pub each : All (KeptInParts parts) sessions
   pub apart : AreApart sessions
 
--- The store was shared whole, and has only gone on since.
+-- The store was shared whole, and has only got more entries since.
 pub record StaysWhole (start : SharedStart) (s : StoreState) : Type 0 where
   pub gone_on : GoesOn start s
   pub whole : start.in_parts ≡ false
@@ -78,12 +78,12 @@ pub record EndsOnly (start : SharedStart) (seen : List Signed) (worker : ℕ) : 
 
 -- ---- answers without an entry
 
--- The store is the shared one, gone on, with exactly these entries since the start.
+-- The store is the shared one, with later entries, with exactly these entries since the start.
 pub record HasExactly (start : SharedStart) (seen : List Signed) (s : StoreState) : Type 0 where
   pub gone_on : GoesOn start s
   pub grown : HasGrownBy start s seen
 
--- The closed store is the shared one, gone on. Its entries since the start begin with those that were seen.
+-- The closed store is the shared one, with later entries. Its entries since the start begin with those that were seen.
 pub record ClosesOver (start : SharedStart) (seen : List Signed) (closed : StoreState) : Type 0 where
   pub signed : List Signed
   pub has : HasExactly start signed closed

@@ -1,4 +1,4 @@
--- What the calls behind the lock do, each told once: of the call itself, and of whoever makes it for a session.
+-- What the calls in the lock do, each told once: of the call itself, and of whoever makes it for a session.
 use Rattle.std.specs.Prelude.{◌≡◌, ◌≢◌, ◌↔◌, ◌⊎◌, ◌<◌, ◌≤◌, ℕ, List, [], ◌∷◌, ◌++◌, Result, Err, IfErr, IfOk, IsErrAnd, OnErr, OnOk, drop, length}
 use Rattle.tg_rights.specs.RightSet.{RightSet}
 use Rattle.tg_model.specs.declared.command.Command.{Command}
@@ -27,16 +27,16 @@ use Rattle.tg_store.specs.declared.fault.CreateRefused.{CreateRefused}
 use Rattle.tg_store.specs.Store.{StoreState, HasFewBlocks, IsUnchanged, StandsFor, graph_of_store}
 use Rattle.tg_shared.specs.Sessions.{AddsReceipts, HoldsWhenFree, IsFresh, KeeperState, KeepsReceipts, LockedState, Records, RecordsNothing, SessionState, SharedStart}
 
--- ---- looking at what is behind the lock
+-- ---- looking at what is in the lock
 
--- Who knows so much of the entries since the start looked at all of them. It sees them. What is behind the lock is as it was, and what
+-- Who knows so much of the entries since the start looked at all of them. It sees them. What is in the lock is as it was, and what
 -- holds whenever the lock is free holds of it.
 pub record IsLookedAt (start : SharedStart) (old new : LockedState) (pass : PassState) : Type 0 where
   pub held : HoldsWhenFree start old
   pub sees : Sees old.signed pass
   pub same : new ≡ old
 
--- ---- what stays behind the lock
+-- ---- what stays in the lock
 
 -- no session was made, and the keeper made no entry
 pub record KeepsNumbers (old new : LockedState) : Type 0 where
@@ -78,7 +78,7 @@ pub record KeepsRound (old new : LockedState) : Type 0 where
 -- ---- commands
 
 -- A command of a session's subject. Where it is served, exactly one entry and one receipt are added, with the reply of the rules on
--- the graph that the store stood for; a denial is a reply that changes nothing else. Where it is refused, nothing is changed.
+-- the graph that the store represented; a denial is a reply that changes nothing else. Where it is refused, nothing is changed.
 pub record ServesCommand {T : Type 0} (command : Command) (old new : StoreState) (before after : SessionState) (result : Result T ApplyFault) : Type 0 where
   pub entry : (g : ProtectionGraph) → StandsFor old g → OnOk result (Records old new before after (Plain command) (answer_of g before.worker (Plain command)))
   pub step : (g : ProtectionGraph) → StandsFor old g → OnOk result (StandsFor new (step g before.worker (Plain command)))
@@ -110,7 +110,7 @@ pub record NotesRefusal {P T : Type 0} (deed : Deed) (old new : StoreState) (bef
 abbrev pub IsCrowdedFor : ProtectionGraph → ℕ → Type 0
 IsCrowdedFor g worker = IsSubject g worker × (g.made < g.limit) × (MAX_WORKERS ≤ length g.subjects)
 
--- `WorkersFull` refuses a worker's spawn only where as many subjects are active as may be. There nothing else refuses it but want of
+-- `WorkersFull` refuses a worker's spawn only where as many subjects are active as may be. There nothing else refuses it but lack of
 -- memory.
 pub record RefusesCrowd {P T : Type 0} (worker : ℕ) (old : StoreState) (result : Result T (CreateRefused P)) : Type 0 where
   pub too_many : (g : ProtectionGraph) → StandsFor old g → IfErr result (λ refused. refused.why ≡ fault.WorkersFull → IsCrowdedFor g worker)
@@ -119,7 +119,7 @@ pub record RefusesCrowd {P T : Type 0} (worker : ℕ) (old : StoreState) (result
 -- ---- leaving
 
 -- A worker's end, whether it leaves or is ended: it has left the store, and so many edges were given up; or nothing was changed, since
--- there was no such worker, or memory was wanting.
+-- there was no such worker, or memory ran out.
 pub record EndsWorker (worker : ℕ) (old new : StoreState) (result : Result ℕ ApplyFault) : Type 0 where
   pub left : OnOk result (HasLeft worker old new)
   pub count : (g : ProtectionGraph) → StandsFor old g → IfOk result (λ count. count ≡ length (listing_of g.label g.made worker))

@@ -1,4 +1,4 @@
--- What contracts see of a session and of the value behind the lock, and what a call does to them.
+-- What contracts see of a session and of the value in the lock, and what a call does to them.
 use Rattle.std.specs.Prelude.{◌≡◌, ◌≢◌, ℕ, ◌+◌, ◌<◌, ◌≤◌, ◌==◌, max, min, Bool, true, false, Option, Some, None, List, [], ◌∷◌, ◌++◌, Result, Ok, Err, IfErr, MatchResult, OnOk, length, map, take, drop}
 use Rattle.std.specs.List.{All, AllPairs, count_by, filter, sum_by}
 use Rattle.tg_rights.specs.RightSet.{RightSet}
@@ -61,7 +61,7 @@ pub record MayNote (session : SessionState) (state : List ℕ) : Type 0 where
   pub room : 0 < session.spare
   pub copy : session.copy ≡ state
 
--- What is behind the lock: the store, how many sessions were made, how many entries the keeper made for workers that it ended, and all
+-- What is in the lock: the store, how many sessions were made, how many entries the keeper made for workers that it ended, and all
 -- entries since the start, with who made each.
 pub record LockedState : Type 0 where
   pub store : StoreState
@@ -151,20 +151,20 @@ sessions_made start entries = length (subjects_at start) + spawned (drop (length
 
 -- ---- who has retired
 
--- whether a session has entered a retire of its own behind a deed of its worker
+-- whether a session has entered a retire of its own after a deed of its worker
 abbrev pub retired_by : Bool → Deed → Bool
 retired_by retired (Plain Retire) = true
 retired_by retired deed = retired
 
--- whether a session has entered a retire of its own behind these entries of its worker
+-- whether a session has entered a retire of its own after these entries of its worker
 abbrev pub retired_behind : Bool → List Entry → Bool
 retired_behind retired [] = retired
 retired_behind retired (e ∷ es) = retired_behind (retired_by retired e.deed) es
 
--- ---- what is behind the lock
+-- ---- what is in the lock
 
--- The store is the one that was shared, and has only gone on: opening and limits are as they were, and the journal begins
--- with the entries that it had. Where it may not be handed out in parts, none was handed out since.
+-- The store is the one that was shared, and has only got more entries: opening and limits are as they were, and the
+-- journal begins with the entries that it had. Where it may not be handed out in parts, none was handed out since.
 pub record GoesOn (start : SharedStart) (s : StoreState) : Type 0 where
   pub opening : s.opening ≡ start.opening
   pub earlier : take (length start.entries) s.entries ≡ start.entries
@@ -172,7 +172,8 @@ pub record GoesOn (start : SharedStart) (s : StoreState) : Type 0 where
   pub within : start.handed ≤ length start.entries
   pub whole : start.in_parts ≡ false → s.handed ≡ start.handed
 
--- This holds of some store that may have been behind the lock: of the shared one, gone on, which keeps the store's promise.
+-- This holds of some store that may have been in the lock: of the shared one, with later entries, which keeps the
+-- store's promise.
 abbrev pub AtSome : SharedStart → (StoreState → Type 0) → Type 0
 AtSome start holds = (s : StoreState) × GoesOn start s × IsFaithful s × holds s
 
@@ -187,7 +188,7 @@ pub record HasGrownBy (start : SharedStart) (s : StoreState) (signed : List Sign
   pub owned : AreOwn signed
   pub none_ended : start.may_end ≡ false → entries_by Keeper signed ≡ []
 
--- This holds of some store that may have been behind the lock, and that got exactly these entries since it was shared. All such stores
+-- This holds of some store that may have been in the lock, and that got exactly these entries since it was shared. All such stores
 -- have the same journal, and so the same graph.
 abbrev pub AtSeen : SharedStart → List Signed → (StoreState → Type 0) → Type 0
 AtSeen start seen holds = AtSome start (λ s. HasGrownBy start s seen × holds s)
@@ -233,16 +234,16 @@ pub record IsOnItsOwn (start : SharedStart) (all : List Signed) (session : Sessi
 abbrev pub StaysOut : SharedStart → StoreState → List Signed → SessionState → Type 0
 StaysOut start s signed session = Sees signed (knowledge session) → IsGone start session.seen session.worker → ¬ IsSubject (graph_of_store s) session.worker
 
--- What is behind the lock beside the store: the roll has exactly the entries since the start, so many of them are the keeper's, and the
+-- What is in the lock beside the store: the roll has exactly the entries since the start, so many of them are the keeper's, and the
 -- names of those who act are names of vertices.
 pub record IsRolled (start : SharedStart) (store : StoreState) (roll : RollState) (entered : ℕ) : Type 0 where
   pub grown : HasGrownBy start store roll.signed
   pub ended : entered ≡ length (entries_by Keeper roll.signed)
   pub below : roll.below ≤ (graph_of_store store).made
 
--- What holds of the value behind the lock whenever the lock is free. The store keeps its promise. It is the shared one, gone on, with
--- exactly the entries since that the roll has, and so many of these are the keeper's as were counted. One session was made for each
--- subject of the start, and one for each that was made since. No worker was ended if the start lets nobody.
+-- What holds of the value in the lock whenever the lock is free. The store keeps its promise. It is the shared one, with later
+-- entries, with exactly the entries since that the roll has, and so many of these are the keeper's as were counted. One session was
+-- made for each subject of the start, and one for each that was made since. No worker was ended if the start lets nobody.
 pub record HoldsWhenFree (start : SharedStart) (locked : LockedState) : Type 0 where
   pub faithful : IsFaithful locked.store
   pub gone_on : GoesOn start locked.store
@@ -252,8 +253,8 @@ pub record HoldsWhenFree (start : SharedStart) (locked : LockedState) : Type 0 w
   pub started : length (subjects_at start) ≤ locked.sessions
   pub none_ended : start.may_end ≡ false → locked.entered ≡ 0
 
--- A collection left so many vertices when exactly these entries had been made since the start: of two stores that may have been behind
--- the lock then, it made the second out of the first.
+-- A collection left so many vertices when exactly these entries had been made since the start: of two stores that may have been in the
+-- lock then, it made the second out of the first.
 abbrev pub LeavesAtSeen : SharedStart → List Signed → Kind → ℕ → Type 0
 LeavesAtSeen start seen kind number = AtSeen start seen (λ old. AtSeen start seen (λ new. IsSwept kind old new number))
 
@@ -297,7 +298,7 @@ AddsReceipt old new at deed reply =
     × (new.retired ≡ retired_by old.retired deed)
     × (new.made ≡ old.made ++ (record { worker = old.worker; deed = deed; reply = reply }) ∷ [])
 
--- exactly these receipts more: of the entries, one behind the other from this place on
+-- exactly these receipts more: of the entries, one after the other from this place on
 abbrev pub AddsReceipts : SessionState → SessionState → ℕ → List Entry → Type 0
 AddsReceipts old new at entries =
     (new.worker ≡ old.worker)
@@ -307,7 +308,7 @@ AddsReceipts old new at entries =
     × (new.retired ≡ retired_behind old.retired entries)
     × (new.made ≡ old.made ++ entries)
 
--- A session took over one that ended, and stands for both: what that one handed out counts as handed out by this one.
+-- A session took over one that ended, and represents both: what that one handed out counts as handed out by this one.
 pub record TakesOver (old ended new : SessionState) : Type 0 where
   pub worker : new.worker ≡ old.worker
   pub receipts : new.receipts ≡ old.receipts
@@ -354,7 +355,7 @@ pub record HasLeftAtSeen (start : SharedStart) (old new : SessionState) (count :
   pub legal : AtSeen start before (λ s. IsLegalLeave (graph_of_store s) old.worker count)
   pub seen : new.seen ≡ before ++ sign_all (Session old.worker) (leaving (graph_seen start before) old.worker)
 
--- The keeper ended a worker, which gave up so many edges. Of a store that may have been behind the lock when exactly these entries had
+-- The keeper ended a worker, which gave up so many edges. Of a store that may have been in the lock when exactly these entries had
 -- been made since the start, the worker left by entries that were legal there, and this made another that may have been there next.
 -- The keeper sees the entries before. It has made exactly the new ones, and has then seen both.
 pub record HasEnded (start : SharedStart) (worker : ℕ) (old new : KeeperState) (count : ℕ) : Type 0 where
@@ -374,9 +375,9 @@ pub record Records (old new : StoreState) (before after : SessionState) (deed : 
 abbrev pub RecordsNothing : StoreState → StoreState → SessionState → SessionState → Type 0
 RecordsNothing old new before after = IsUnchanged old new × KeepsReceipts before after
 
--- When a session's deed makes no vertex, of a store that may have been behind the lock and that has exactly the entries that the
--- session has then seen, and the draft is handed back. If as many vertices were made as may be, a receipt is added; a spawn's clauses
--- say of one if as many are subjects as may be.
+-- When a session's deed makes no vertex, of a store that may have been in the lock and that has exactly the entries that the session
+-- has then seen, and the draft is handed back. If as many vertices were made as may be, a receipt is added; a spawn's clauses say of
+-- one if as many are subjects as may be.
 pub record MayRefuseAtSeen {P T : Type 0} (start : SharedStart) (deed : Deed) (value : Value) (old new : SessionState) (result : Result T (CreateRefused P)) : Type 0 where
   pub full : IfErr result (λ refused. refused.why ≡ fault.VerticesFull → IsAnswered start old new deed VerticesFull)
   pub no_such_worker : IfErr result (λ refused. refused.why ≡ fault.NoSuchWorker → IsNobodyAtSeen start new.seen old.worker)
@@ -392,8 +393,8 @@ IsFresh s = (s.receipts ≡ []) × (s.handed ≡ 0) × (s.parts ≡ 1) × (s.ret
 abbrev pub AreFresh : List ℕ → List SessionState → Type 0
 AreFresh subjects sessions = (map (λ s. s.worker) sessions ≡ subjects) × All IsFresh sessions
 
--- what holds of the value behind the lock: the book has counted the entries since the start, the parts of the ledger are
--- the sessions' and the rest, and there are enough of them for a session of each vertex that may ever be made
+-- what holds of the value in the lock: the book has counted the entries since the start, the parts of the ledger are the
+-- sessions' and the rest, and there are enough of them for a session of each vertex that may ever be made
 pub record IsBalanced (store : StoreState) (start sessions total rest parts : ℕ) : Type 0 where
   pub counted : length store.entries ≡ start + total
   pub cut : sessions + rest ≡ parts
@@ -460,7 +461,7 @@ CountsAll start sessions s = length s.entries ≡ length start.entries + handed_
 -- What is found of so many entries, where there were so many when the store was shared, so many sessions were made, and the keeper
 -- made so many entries for workers that he ended.
 pub record AddsUp (start entries made entered : ℕ) (sessions : List SessionState) : Type 0 where
-  -- the sessions stand for no more than were made
+  -- the sessions represent no more than were made
   pub within : parts_of sessions ≤ made
   -- no entry is counted twice
   pub least : start + entered + handed_of sessions + count_of sessions ≤ entries

@@ -1,4 +1,4 @@
-//! Batches: several commands of a session in one taking of the lock.
+//! Batches. A batch is several commands of a session, under one lock of the store.
 ghost use Rattle.std.specs.Prelude.{◌≡◌, ◌↔◌, ◌⊎◌, ◌<◌, ◌≤◌, [], Err, Ok, IfErr, IfOk, OnOk, true, length};
 ghost use Rattle.tg_passes.specs.declared.signed.Maker.TheVariants as maker;
 ghost use Rattle.tg_passes.specs.Passes.{entries_by};

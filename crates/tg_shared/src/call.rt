@@ -25,17 +25,17 @@ impl<L: Round> Session<L> {
     /// Asks the shared store for a command of the session's subject, by one call of
     /// [`Locked::apply`](crate::Locked::apply) under the lock. Returns the reply, lent from the receipt. Exactly one
     /// receipt was added, with this command and this reply. Its entry came next after the entries since the start that
-    /// the session has then seen. It was legal there, so the reply is the rules' on the graph after those entries.
+    /// the session has then seen. It was legal there, so the reply is the rules' on the graph after these entries.
     ///
     /// A refused call keeps the receipts. Its reason is one of a store with exactly the entries that the session has
     /// then seen (`AtSeen`). There was no such worker, or the command was allowed and a cell was lacking. Memory may
     /// run out at any call. After a retire that the session entered itself, the call always reports that there is no
     /// such worker, and takes no lock.
     ///
-    /// A session knows who made each entry that it has seen. These entries begin with those that it had seen before.
-    /// The session's own among them are exactly those that its calls made. [`close`](crate::close) compares what each
-    /// session has seen with the journal. So a worker that entered no retire, and that the keeper didn't end, is never
-    /// reported missing
+    /// A session knows who made each entry that it has seen. These entries begin with the entries that it had seen
+    /// before. The session's own among them are exactly the entries that its calls made. [`close`](crate::close)
+    /// compares what each session has seen with the journal. So a worker that entered no retire, and that the keeper
+    /// didn't end, is never reported missing
     /// ([`a_session_without_a_retire_is_a_subject`](crate::laws::a_session_without_a_retire_is_a_subject)).
     pub fn call<P: Payload, R: Wait>(
         &mut self,
@@ -151,9 +151,9 @@ impl<L: Round> Session<L> {
 
     /// The session's worker leaves, by one call of [`Locked::leave`](crate::Locked::leave) under the lock. It gives up
     /// each edge that it has, by rising name, and retires. Returns how many edges these were. Exactly the receipts of
-    /// these entries were added. They came next after the entries since the start that the session has then seen, and
-    /// were legal there. From then on each call of the session reports that there is no such worker. Its receipts are
-    /// taken, or closed with, as before.
+    /// its removes and of its retire were added. They came next after the entries since the start that the session has
+    /// then seen, and were legal there. From then on each call of the session reports that there is no such worker. Its
+    /// receipts are taken, or closed with, as before.
     ///
     /// A refused leave keeps the receipts, and the worker holds what it held. There was no such worker in a store with
     /// exactly the entries that the session has then seen, or memory ran out. [`call`](Session::call) says what the
@@ -203,10 +203,9 @@ impl<L: Round> Session<L> {
     }
 
     /// Collects the heap of the shared store, by one call of [`Locked::collect`](crate::Locked::collect) under the
-    /// lock. Returns how many vertices the heap then has. This is the number of a store with exactly the entries that
-    /// the session has then seen, which this collection left of another store with the same entries. After a full
-    /// collection it is the number of vertices that can be reached in the graph after these entries. It makes no entry
-    /// and no receipt.
+    /// lock. Returns how many vertices the heap then has. The number is right for some store with exactly the entries
+    /// that the session has then seen, as this collection left it. After a full collection it is the number of vertices
+    /// that can be reached in the graph after these entries. The call makes no entry and no receipt.
     pub fn collect<P: Payload, R: Wait>(
         &mut self,
         rt: &R,

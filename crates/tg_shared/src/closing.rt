@@ -16,11 +16,11 @@ use thiserror::Error;
 /// Why a round does not end. Nothing is changed by it.
 #[derive(Clone, Copy, PartialEq, Eq, Debug, Error)]
 pub enum CloseFault {
-    /// There are fewer sessions than were made. A session that took others over counts for these too.
+    /// There are fewer sessions than were made. A session that took others over counts for the others too.
     #[error("sessions are missing")]
     SessionsMissing,
-    /// The receipts of a session differ from the journal, or one is of an entry that was made before the store was
-    /// shared, or two sessions are of one worker.
+    /// The receipts of a session differ from the journal. Or a receipt is of an entry that was made before the store
+    /// was shared. Or two sessions are of one worker.
     #[error("receipts don't match the journal")]
     ReceiptMismatch,
 }
@@ -54,8 +54,8 @@ impl<L: Round, P: Payload> Locked<L, P> {
     /// since the store was shared.
     ///
     /// It also says who made each entry since the store was shared (`signed`). Each session made exactly its own, and
-    /// the entries begin with those that the session has seen. So an answer to a session is an answer on the journal up
-    /// to the entries that the session had seen.
+    /// the entries begin with the entries that the session has seen. So an answer to a session is an answer on the
+    /// journal up to the entries that the session had seen.
     pub fn close(self, sessions: Vec<Session<L>>) -> Result<Store<P>, LockedRefused<L, P>>
         ensures ends { EndsRound L.start self sessions.items result }
         ensures all { OnOk result (parts_of sessions.items ≡ self.sessions) }
@@ -77,8 +77,8 @@ impl<L: Round, P: Payload> Locked<L, P> {
     }
 
     /// Ends a round whose sessions may be lost. It hands out the store if the receipts of the returned sessions are
-    /// right. The journal has then grown by at least as many entries as these have receipts and the keeper entered for
-    /// workers that it ended. If no session is missing, all holds that [`close`](Locked::close) says.
+    /// right. The journal has then grown by at least as many entries as there are receipts, and entries of the keeper
+    /// for workers that it ended. If no session is missing, all holds that [`close`](Locked::close) says.
     ///
     /// `ReceiptMismatch` is the only refusal. It is returned exactly if the sessions that are there may not close. What
     /// was handed in then comes back, with the sessions in the order of their workers' names. Takes no memory, and for
@@ -92,7 +92,7 @@ impl<L: Round, P: Payload> Locked<L, P> {
         ensures counted { OnErr result (length L.start.entries + self.entered + count_of sessions.items ≤ length self.store.entries) }
     {
         sort_by_worker(&mut sessions);
-        // It tells that what the keeper entered was counted.
+        // This call shows that the keeper's entries were counted.
         self.register.book.audit(&mut self.rest);
         let journal = self.store.journal();
         let since = self.start.max(journal.start());
@@ -131,8 +131,8 @@ fn entries_since(journal: &Journal, start: u64, but: u64) -> u64
 }
 
 // Whether the sessions, in the order of their workers' names, may not close. There are never more receipts than entries
-// that were made since the start, which the ledger tells once their parts are together: so what these would be refused
-// for isn't looked at.
+// that were made since the start. The ledger shows this after its parts are together. Therefore the number of receipts
+// isn't checked here.
 fn are_refused<L: Round>(
     journal: &Journal,
     start: u64,
@@ -181,7 +181,8 @@ fn are_since(start: u64, receipts: &[Receipt]) -> bool
     receipts.iter().all(|receipt| start <= receipt.at)
 }
 
-// Whether no two sessions are of one worker. They stand in the order of the names, so two of one worker are neighbours.
+// Whether no two sessions are of one worker. The sessions are in the order of the names, so two sessions of one worker
+// are neighbours.
 fn are_apart<L: Round>(sessions: &[Session<L>]) -> bool
     requires rising { IsNonDecreasingBy (λ s. s.worker) sessions.now }
     ensures { IsTrue result ↔ AreApart sessions.now }

@@ -17,8 +17,9 @@ use tg_payload::Payload;
 use tg_rights::Label;
 use tg_store::{ApplyFault, Hand, Handed, removal};
 
-/// Rights that a session's own subject hands on ([`Session::hand`]). It takes them from `from` over the target, grants
-/// them to `to`, and removes those of them that it didn't hold before. Names are those of a [`Hand`] of the store.
+/// Rights that a session's own subject hands on ([`Session::hand`]). The subject takes rights over the target from
+/// `from`, and grants them to `to`. Then it removes the rights among them that it didn't hold before. The names are the
+/// same as in a [`Hand`] of the store.
 #[derive(Clone, Copy, PartialEq, Eq, Debug)]
 pub struct OwnHand {
     /// Who holds the rights over the target.
@@ -63,7 +64,7 @@ impl<L: Round, P: Payload> Locked<L, P> {
         let at = self.store.journal().len();
         let hand = hand.by(session.worker());
         let handed = self.store.hand(hand)?;
-        // It tells that the store is faithful, and that the journal's places are numbers.
+        // This call shows that the store is faithful, and that the journal's places are numbers.
         let _ = self.store.journal().len();
         session.note_hand(&mut self.register, at, &hand, &handed);
         Ok(handed)
@@ -72,9 +73,9 @@ impl<L: Round, P: Payload> Locked<L, P> {
 
 impl<L: Round> Session<L> {
     /// Hands rights on in the name of the session's subject, as [`Store::hand`](tg_store::Store::hand) does, in one
-    /// taking of the lock. The subject takes the rights, grants them, and removes those that it didn't hold before.
-    /// Each command has an entry and a receipt of its own. So two or three receipts come, whose places follow one
-    /// another, without an entry of another session between them. The answer says which rights were removed.
+    /// taking of the lock. The subject takes the rights, grants them, and removes the rights that it didn't hold
+    /// before. Each command has an entry and a receipt of its own. So two or three receipts come, whose places follow
+    /// one another, without an entry of another session between them. The answer says which rights were removed.
     ///
     /// A hand that is denied has one receipt, of the denied command. The denial is that of the rules on the graph
     /// before the hand, and nothing else changes. [`call`](Session::call) says what the session knows of the entries
@@ -108,7 +109,7 @@ impl<L: Round> Session<L> {
         handed
     }
 
-    // Adds the receipts of the entries that were made of a hand, which stand from this place on.
+    // Adds the receipts of the entries that were made of a hand, which are at this place and the next places.
     fn note_hand(&mut self, register: &mut Register<L>, at: u64, hand: &Hand, handed: &Handed)
         requires own { hand.now.via ≡ self.old.worker }
         requires room { 3 ≤ self.old.spare }
@@ -130,7 +131,7 @@ impl<L: Round> Session<L> {
         }
     }
 
-    // Adds those of a hand that was done: of the take, the grant, and the remove if there is one.
+    // Adds the receipts of a hand that was done. They are of the take, the grant, and the remove if there is one.
     fn note_done(
         &mut self,
         register: &mut Register<L>,

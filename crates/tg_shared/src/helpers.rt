@@ -38,14 +38,14 @@ impl<L: Round, P: Payload> Locked<L, P> {
 }
 
 impl<L: Round> Session<L> {
-    /// Collects the heap of the shared store as [`collect`](Session::collect) does, with 1 to 8 helpers. One is on the
-    /// calling thread, and each other one on a thread of its own. Each of them passes the gate. It is one call of
-    /// [`Locked::collect_with`](crate::Locked::collect_with) under the lock. All threads that were started have ended
-    /// before the lock is released. Returns how many vertices the heap then has.
+    /// Collects the heap of the shared store as [`collect`](Session::collect) does, with 1 to 8 helpers. The first
+    /// helper is on the calling thread, and each other helper is on a thread of its own. Each helper passes the gate.
+    /// The call is one call of [`Locked::collect_with`](crate::Locked::collect_with) under the lock. All threads that
+    /// were started have ended before the lock is released. Returns how many vertices the heap then has.
     ///
-    /// The reason of `HeapFull` is one of a store with exactly the entries that the session has then seen, where each
-    /// helper may leave a block open. `NoThread` means that a thread couldn't be started. It is never returned if there
-    /// is one helper. The only other refusal is `OutOfMemory`. The call makes no entry and no receipt.
+    /// `HeapFull` has the reason of a store with exactly the entries that the session has then seen. In such a store
+    /// each helper may leave a block open. `NoThread` means that a thread couldn't be started. It is never returned if
+    /// there is one helper. The only other refusal is `OutOfMemory`. The call makes no entry and no receipt.
     pub fn collect_with<P: Payload, R: Threads + Wait + Sync, G: Gate>(
         &mut self,
         rt: &R,

@@ -18,14 +18,14 @@ use tg_passes::{Pass, Roll};
 use tg_payload::Payload;
 use tg_store::ApplyFault;
 
-/// Who may take the entries of a shared store, see its whole graph, and end a worker. A shared store has one keeper,
-/// which only [`SharedStore::new`] makes, with the sessions. So the maker of the shared store decides who has it. A
-/// session can neither take the journal away nor end another's worker. A keeper takes no memory.
-/// [`close`](crate::close) works without it, because the locked value counts what it did.
+/// The owner of a keeper may take the entries of a shared store, see its whole graph, and end a worker. A shared store
+/// has one keeper. Only [`SharedStore::new`] makes it, with the sessions. So the maker of the shared store decides who
+/// has the keeper. A session can neither take the journal away nor end another session's worker. A keeper takes no
+/// memory. [`close`](crate::close) works without it, because the locked value counts the keeper's entries.
 ///
-/// A keeper knows where its last part of the journal ended, and which entries it made. Both change by its own calls
-/// alone. Each of its calls of the store looks at all entries since the store was shared, so the keeper knows of which
-/// entries the answer speaks. Contracts see a `KeeperState`.
+/// A keeper knows where its last part of the journal ended, and which entries it made. Only its own calls change this
+/// knowledge. Each of its calls of the store looks at all entries since the store was shared. So the keeper knows of
+/// which entries the answer speaks. Contracts see a `KeeperState`.
 #[derive(Drop)]
 pub struct Keeper<L: Round> {
     pub(crate) next: Mirror<HandedOut<L>>,
@@ -66,7 +66,7 @@ impl<L: Round> Keeper<L> {
         self.next.number()
     }
 
-    /// How many entries it made for workers that it ended. No session has a receipt of these.
+    /// How many entries it made for workers that it ended. No session has a receipt of them.
     pub fn entered(&self) -> u64
         ensures { result ≡ length self.now.made }
     {
@@ -119,9 +119,9 @@ impl<L: Round> Keeper<L> {
 
     /// Gives up the entries before a place that the locked store still holds, by one call of
     /// [`Locked::forget`](crate::Locked::forget) under the lock. The journal keeps their room. So a service that has
-    /// written these entries out, from the receipts of all sessions, takes no more memory for later ones. All entries
-    /// are given up if the place is after the last one, and none if the last part ended after the place. The next part
-    /// begins after what was given up, and the keeper has then seen all entries. As after
+    /// written these entries out, from the receipts of all sessions, takes no more memory for later entries. All
+    /// entries are given up if the place is after the last entry, and none if the last part ended after the place. The
+    /// next part begins after what was given up, and the keeper has then seen all entries. As after
     /// [`take_journal`](Keeper::take_journal), a session that still has a receipt of such an entry can't be closed. The
     /// store has to be shared so that it is handed out in parts. Takes no memory.
     pub fn forget<P: Payload, R: Wait>(&mut self, rt: &R, store: &SharedStore<L, P>, upto: u64)
@@ -140,7 +140,7 @@ impl<L: Round> Keeper<L> {
 
     /// Ends a worker whose session is elsewhere, also if the session is lost, by one call of
     /// [`Locked::end`](crate::Locked::end) under the lock. The worker gives up each edge that it has, by rising name,
-    /// and retires. Returns how many edges these were. The entries by which this worker leaves came next after all
+    /// and retires. Returns how many edges it gave up. The entries by which this worker leaves came next after all
     /// entries that the keeper had seen then, and were legal there (`ended`). They are exactly what the keeper made
     /// more. So the named worker stopped being a subject, and no other did. [`close_with`](crate::close_with) compares
     /// what the keeper made with the journal. From then on each call of the worker's session reports that there is no

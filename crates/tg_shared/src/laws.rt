@@ -1,4 +1,4 @@
-//! What receipts say of a history. A function here does nothing: what it ensures is the law.
+//! What receipts say of a history. A function here does nothing. Its `ensures` is the law.
 ghost use Rattle.std.specs.Prelude.{◌≡◌, ◌+◌, ℕ, List, Option, drop, false, length, take, true};
 ghost use Rattle.std.specs.List.{All, AllPairs, Contains};
 ghost use Rattle.tg_rights.specs.RightSet.{RightSet};
@@ -20,8 +20,8 @@ ghost use Rattle.tg_store.specs.Leaving.{HasLeft};
 ghost use Rattle.tg_store.specs.Store.{IsFaithful, StoreState, graph_of_store};
 
 /// The entry of each receipt that matches a legal history was answered by the rules, on the graph after all entries
-/// before it. Among these are the entries of all earlier receipts. So what a session reads comes after all that it
-/// wrote before.
+/// before it. The entries of all earlier receipts are among these entries. So what a session reads comes after all that
+/// it wrote before.
 pub fn receipts_stand_in_order()
     ensures answered { (g : ProtectionGraph) (entries : List Entry) (worker : ℕ) (receipts : List Receipt) →
         IsLegal g entries → ReceiptsMatch entries worker receipts → All (WasAnswered g entries) receipts }
@@ -29,8 +29,9 @@ pub fn receipts_stand_in_order()
         ReceiptsMatch entries worker receipts → AllPairs (λ r later. Contains (take later.at entries) r.entry) receipts }
 {}
 
-/// If a journal was handed out in parts that join, and a worker's receipts of each part match the part, then all its
-/// receipts match the journal. They are those of the first part, then those of the second, and so on.
+/// Suppose that a journal was handed out in parts that join, and that a worker's receipts of each part match the part.
+/// Then all its receipts match the journal. They are the receipts of the first part, then those of the second, and so
+/// on.
 pub fn receipts_of_parts_match()
     ensures { (entries : List Entry) (parts : List Entries) (worker first : ℕ) (lists : List (List Receipt)) →
         AreParts first entries parts → MatchParts parts worker lists →
@@ -43,11 +44,11 @@ pub fn as_many_receipts_share_out()
         MayClose entries first sessions → length entries ≡ first + count_of sessions → AreSharedOut (drop first entries) sessions }
 {}
 
-/// What [`close`](crate::close) says of receipts, for who has kept all parts of a journal and all receipts of each of
-/// its sessions, whether these were taken over or not. Suppose that the receipts match part by part, that no two
-/// sessions are of one worker, and that there are as many receipts as entries. Then each entry is in exactly one
-/// receipt, and the receipts of each session are all its entries, in their order. The last part may be what the store
-/// still holds.
+/// What [`close`](crate::close) says of receipts, for a service that has kept all parts of a journal. It has also kept
+/// all receipts of each session, whether the session was taken over or not. Suppose that the receipts match part by
+/// part, that no two sessions are of one worker, and that there are as many receipts as entries. Then each entry is in
+/// exactly one receipt. The receipts of each session are all its entries, in their order. The last part may be what the
+/// store still holds.
 pub fn kept_parts_share_out()
     ensures { (entries : List Entry) (first : ℕ) (sessions : List SessionState) →
         AreKeptInParts entries first sessions → length entries ≡ first + count_of sessions → AreSharedOut (drop first entries) sessions }
@@ -74,18 +75,19 @@ pub fn each_stands_for_itself()
     ensures { (sessions : List SessionState) → All (λ s. s.parts ≡ 1) sessions → parts_of sessions ≡ length sessions }
 {}
 
-/// A subject that has left a store, by its own session or ended by the keeper, is never a subject of the store again,
-/// whatever entries follow. So each later call of its session reports that there is no such worker.
+/// Suppose that a subject has left a store, by its own session or because the keeper ended it. Then it is never a
+/// subject of the store again, whatever entries follow. So each later call of its session reports that there is no such
+/// worker.
 pub fn who_left_stays_away()
     ensures { (old new later : StoreState) (worker : ℕ) → IsFaithful old → IsSubject (graph_of_store old) worker →
         HasLeft worker old new → GrowsInto new later → ¬ IsSubject (graph_of_store later) worker }
 {}
 
 /// What a session knows bounds the reasons for which its calls are refused. Its worker was a subject when the store was
-/// shared, or was made by a spawn whose entry the session has seen. While no retire is among the entries that the
-/// session made, and the keeper made none of its worker, the worker is a subject of each store whose entries the
-/// session sees. A session that has looked sees the entries that it has seen. So none of its calls reports that there
-/// is no such worker. A round whose keeper may end nobody needs no premise on the keeper.
+/// shared, or was made by a spawn whose entry the session has seen. Suppose that no retire is among the entries that
+/// the session made, and that the keeper made no entry of its worker. Then the worker is a subject of each store whose
+/// entries the session sees. A session that has looked sees the entries that it has seen. So none of its calls reports
+/// that there is no such worker. A round whose keeper may end nobody needs no premise on the keeper.
 pub fn a_session_without_a_retire_is_a_subject()
     ensures from_the_start { (start : SharedStart) (all : List Signed) (s : SessionState) →
         Contains (subjects_at start) s.worker → HasNotLeft start all s → ¬ IsNobodyAtSeen start all s.worker }
@@ -111,23 +113,24 @@ pub fn what_a_session_has_seen_grows()
 {}
 
 /// What a session knows of a store whose entries it sees, if the keeper made none of its worker. The entries of its
-/// worker since the start are exactly those that its own calls made, and all begin with those that it has seen.
+/// worker since the start are exactly the entries that its own calls made. All entries begin with the entries that it
+/// has seen.
 pub fn a_session_knows_its_own_entries()
     ensures { (start : SharedStart) (all : List Signed) (x : SessionState) (s : StoreState) →
         HasGrownBy start s all → IsOnItsOwn start all x → KnowsItsOwn (since start s) x }
 {}
 
 /// An answer without an entry is an answer on the closed journal. A store with exactly the entries that a session, or
-/// the keeper, has seen has one graph. When the round is closed, the entries since the start begin with these. Then
-/// that graph is the one after so many entries of the journal.
+/// the keeper, has seen has one graph. When the round is closed, the entries since the start begin with these entries.
+/// Then that graph is the one after so many entries of the journal.
 pub fn an_answer_is_of_the_closed_journal()
     ensures seen { (start : SharedStart) (seen : List Signed) (s : StoreState) → HasExactly start seen s → graph_of_store s ≡ graph_seen start seen }
     ensures closed { (start : SharedStart) (seen : List Signed) (s closed : StoreState) →
         HasExactly start seen s → ClosesOver start seen closed → graph_of_store s ≡ graph_up_to start seen closed }
 {}
 
-/// The label that a session received is that of the closed journal's graph, after as many entries since the store was
-/// shared as the session had seen then.
+/// The label that a session received is the label in the closed journal's graph after a number of entries. That number
+/// is how many entries since the store was shared the session had seen then.
 pub fn a_label_is_of_the_closed_journal()
     ensures { (start : SharedStart) (seen : List Signed) (s : StoreState) → ClosesOver start seen s →
         (worker target : ℕ) (label : Option RightSet) → IsHeldAtSeen start seen worker target label → IsHeldOver (graph_up_to start seen s) worker target label }

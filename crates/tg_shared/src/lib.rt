@@ -1,7 +1,7 @@
-//! The locked store: a store that many threads use, and a proof at the end that nothing was lost.
+//! The locked store. Many threads use it, and a proof at the end shows that nothing was lost.
 //!
 //! [`SharedStore::new`] puts a store into a lock and gives one [`Session`] for each active subject. A session may go to
-//! a thread of its own. Each of its calls takes the lock, makes one call of the store, and releases the lock:
+//! a thread of its own. Each of its calls takes the lock, makes one call of the store, and releases the lock.
 //!
 //! ```text
 //!     session 0   [receipts, pass] --call--+
@@ -13,26 +13,26 @@
 //! ```
 //!
 //! A call that makes an entry of the journal leaves a [`Receipt`] with the session. The receipt has the entry and its
-//! place. So a session has all answers that it got, and [`close`] compares. It takes all sessions back, looks whether
-//! each receipt is the journal's entry at its place, and hands out the store.
+//! place. So a session has all answers that it got, and [`close`] compares. [`close`] takes all sessions back, and
+//! checks that each receipt is the journal's entry at its place. Then it hands out the store.
 //!
 //! The contracts of [`Locked`], the type in the lock, say what a call does to the value there. Each call of a session
 //! is one call of the store and makes at most one receipt. [`Session::call_all`] makes several in a row. The clauses of
-//! a session speak of its own receipts, and of a store with exactly the entries that the session has then seen since
-//! the start. The answer was right for such a store ('What a session can know' in docs/inside/ARCHITECTURE.md). Its
-//! pass shows that its own entries among these are exactly those that its calls made ('How a session knows its own
-//! entries' there). [`close`] says that the journal begins with what each session has seen. Whenever the lock is free,
-//! the store has gone on from the shared one and keeps its promise ([`Locked::store`]). The book beside it has then
-//! counted each entry since.
+//! a session speak of its own receipts and of a store. This store has exactly the entries that the session has then
+//! seen since the start. The answer was right for such a store ('What a session can know' in
+//! docs/inside/ARCHITECTURE.md). Its pass shows which of these entries are its own. They are exactly the entries that
+//! its calls made ('How a session knows its own entries' there). [`close`] says that the journal begins with what each
+//! session has seen. Whenever the lock is free, the store has all entries of the shared store, and keeps its promise
+//! ([`Locked::store`]). The book beside it has then counted each entry since.
 //!
-//! A session may make a subject, and gets its session ([`Session::spawn`]), which is owed to [`close`] like the others.
-//! A subject that retires makes no more entries. Its session is owed all the same.
+//! A session may make a subject, and gets the session of the new subject ([`Session::spawn`]). This session is owed to
+//! [`close`] too. A subject that retires makes no more entries. Its session is owed all the same.
 //!
 //! **For years.** A service takes the journal and the receipts in parts. It shares the store in parts, and gets a
 //! [`Keeper`]. The keeper takes the entries while the sessions go on. Each session hands its receipts out
 //! ([`Session::take_receipts`]). They are compared with the part that has their entries ([`receipts_match`]), and
 //! [`laws`] join the parts. [`Keeper::forget`] and [`Session::forget_receipts`] give entries and receipts up, and keep
-//! their room. Each part begins at the end of the keeper's last one ([`Keeper::next`]). A session that is done goes
+//! their room. Each part begins at the end of the keeper's part before ([`Keeper::next`]). A session that is done goes
 //! into another one ([`Session::take_over`]). A store that is shared whole hands out entries and receipts only at the
 //! close.
 //!

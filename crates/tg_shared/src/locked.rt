@@ -1,4 +1,4 @@
-//! The value behind the lock, and what each call does to it.
+//! The value in the lock, and what each call does to it.
 ghost use Rattle.std.specs.Prelude.{◌≡◌, ◌≢◌, ◌<◌, ◌≤◌, ◌+◌, ◌^◌, ℕ, [], Err, true, IfOk, IfErr, OnOk, OnErr, drop, length, max, min};
 ghost use Rattle.std.specs.List.{All};
 ghost use Rattle.tg_subjects.specs.Subjects.{AreSubjects, names_of};
@@ -20,19 +20,19 @@ use tg_rights::Label;
 use tg_store::{ApplyFault, CreateFault, CreateRefused, Kind, RoomFault, Store};
 use tg_subjects::Subject;
 
-/// The locked value. It has the store, the book that counts its entries since it was shared, the roll of them with who
-/// made each, and the parts of the ledger that no session has. Each call is one call of the store, with its contract. A
-/// call for a session makes a receipt of each entry.
+/// The locked value. It has the store, the book and the roll, and the parts of the ledger that no session has. The book
+/// counts the store's entries since it was shared. The roll has these entries, with who made each. Each call is one
+/// call of the store, with its contract. A call for a session makes a receipt of each entry.
 ///
-/// Contracts see a `LockedState`. It has the store, how many sessions were made, how many entries the keeper made for
-/// workers that it ended, and all entries since the start with who made each.
+/// Contracts see a `LockedState`. It has the store, and how many sessions were made. It also has how many entries the
+/// keeper made for workers that it ended, and all entries since the start with who made each.
 #[derive(Drop)]
 pub struct Locked<L: Round, P: Payload> {
     pub(crate) store: Store<P>,
     pub(crate) start: u64,
     pub(crate) sessions: u64,
-    // How many entries are the keeper's. Of these no session has a receipt: the rest of the ledger has them as its
-    // amount.
+    // How many entries are the keeper's. No session has a receipt of them. They are the amount of the rest of the
+    // ledger.
     pub(crate) entered: u64,
     // How many entries the store has handed out, which the keeper knows.
     pub(crate) handed: Mirrored<HandedOut<L>>,
@@ -62,30 +62,30 @@ impl<L: Round, P: Payload> Locked<L, P> {
     ghost use Rattle.tg_shared.specs.Serving.{Collects, EndsWorker, HasNoted, HasNotedEnd, IsLookedAt, IsMadeAndNoted, IsSpawnedAndNoted, KeepsNumbers, KeepsRound, NotesLeaving, NotesRefusal, RefusesCrowd, ServesCommand};
     ghost use Rattle.tg_shared.specs.Sessions.{AreFresh, HoldsWhenFree, MayNote, MayShare, held_after, keeper_knowledge, knowledge};
 
-    /// The store, and what holds whenever the lock is free (`held`). The store keeps its own promise: its journal is a
-    /// legal history of its opening, and its heap represents the graph after it. It has gone on from the shared store.
-    /// It has the same opening, limits and earlier entries, and since then exactly the entries that the roll has
-    /// (`grown_by`). One session was made for each subject that it had then, and one for each that was made since. If
-    /// its start lets the keeper end nobody, no worker was ended.
+    /// The store, and what holds whenever the lock is free (`held`). The store keeps its own promise. Its journal is a
+    /// legal history of its opening, and its heap represents the graph after this history. The store comes from the
+    /// shared store. It has the same opening, limits and earlier entries, and since then exactly the entries that the
+    /// roll has (`grown_by`). One session was made for each subject that the shared store had, and one for each subject
+    /// that was made since. If its start lets the keeper end nobody, no worker was ended.
     pub fn store(&self) -> &Store<P>
         ensures same { result.now ≡ self.now.store }
         ensures held { HoldsWhenFree L.start self.now }
         ensures grown { length L.start.entries ≤ length self.now.store.entries }
     {
-        // It tells that the store is faithful.
+        // This call shows that the store is faithful.
         let _ = self.store.journal();
         &self.store
     }
 
-    /// How many sessions were made. If none is missing, so many are there. Each counts for itself and for those that it
-    /// took over.
+    /// How many sessions were made. If none is missing, so many are there. Each counts for itself and for the sessions
+    /// that it took over.
     pub fn sessions(&self) -> u64
         ensures { result ≡ self.now.sessions }
     {
         self.sessions
     }
 
-    /// How many entries the keeper made for workers that it ended. No session has a receipt of these.
+    /// How many entries the keeper made for workers that it ended. No session has a receipt of them.
     pub fn entered(&self) -> u64
         ensures { result ≡ self.now.entered }
     {
@@ -93,9 +93,9 @@ impl<L: Round, P: Payload> Locked<L, P> {
     }
 
     /// The keeper looks at all entries since the start, and has then seen them. All else stays as it was. The entries
-    /// that the keeper made are exactly the keeper's among all, which begin with those that it had seen (`sees`). What
-    /// holds whenever the lock is free is shown too (`held`). The store holds its entries from the place at which the
-    /// keeper's last part ended.
+    /// that the keeper made are exactly the keeper's among all. All begin with the entries that it had seen (`sees`).
+    /// What holds whenever the lock is free is shown too (`held`). The store holds its entries from the place at which
+    /// the keeper's last part ended.
     pub fn tell(&mut self, keeper: &mut Keeper<L>)
         ensures looks { IsLookedAt L.start self.old self.new (keeper_knowledge keeper.old) }
         ensures next { keeper.old.next ≡ self.old.store.handed }
@@ -108,8 +108,8 @@ impl<L: Round, P: Payload> Locked<L, P> {
     }
 
     /// The session looks at all entries since the start, and has then seen them. All else stays as it was. The entries
-    /// that its own calls made are exactly its own among all, which begin with those that it had seen (`sees`). What
-    /// holds whenever the lock is free is shown too (`held`).
+    /// that its own calls made are exactly its own among all. All begin with the entries that it had seen (`sees`).
+    /// What holds whenever the lock is free is shown too (`held`).
     pub fn look(&mut self, session: &mut Session<L>)
         ensures looks { IsLookedAt L.start self.old self.new (knowledge session.old) }
         ensures session { session.new ≡ record session.old { seen = self.old.signed } }
@@ -120,7 +120,7 @@ impl<L: Round, P: Payload> Locked<L, P> {
     }
 
     /// Shares a store. Makes the value to be locked, a session for each subject of the store's graph, and its one
-    /// keeper. The blanks are spent, and that of the sessions has to have one part more than vertices may be made.
+    /// keeper. The blanks are spent. The blank of the sessions has to have one part more than vertices may be made.
     /// Fails only when out of memory, and hands the store back.
     pub fn open(
         alloc: Global,
@@ -203,7 +203,7 @@ impl<L: Round, P: Payload> Locked<L, P> {
         ensures numbers { KeepsNumbers self.old self.new }
         ensures signed { HasNoted self.old self.new session.old session.new }
     {
-        // It tells that the store is faithful, so a session that has retired has no subject in it.
+        // This call shows that the store is faithful. So a session that has retired has no subject in it.
         let _ = self.store.journal();
         make(
             &mut self.store,
@@ -237,7 +237,7 @@ impl<L: Round, P: Payload> Locked<L, P> {
         ensures signed { HasNoted self.old self.new session.old session.new }
         ensures fresh_seen { IfOk result (λ fresh. fresh.seen ≡ self.new.signed) }
     {
-        // It tells that the store is faithful, so there is a part left.
+        // This call shows that the store is faithful. So there is a part left.
         let _ = self.store.journal();
         let name = make(
             &mut self.store,
@@ -254,7 +254,7 @@ impl<L: Round, P: Payload> Locked<L, P> {
     }
 
     /// The session's worker leaves, by one call of the store. It gives up each edge that it has, by rising name, and
-    /// retires. Each of these entries adds a receipt. Returns how many edges these were.
+    /// retires. Each of these entries adds a receipt. Returns how many edges it gave up.
     ///
     /// Room for all entries and receipts is made first, under the lock, because the row may grow until then. It takes
     /// 168 bytes for each edge, and 32 for its listing. `NoSuchWorker` is returned exactly if the session's subject is
@@ -271,14 +271,14 @@ impl<L: Round, P: Payload> Locked<L, P> {
         let row = self.store.row(worker)?;
         session.make_room_for(row.as_slice().len() + 1)?;
         let count = self.store.leave(worker)?;
-        // It tells that the store is faithful, and that the journal's places are numbers.
+        // This call shows that the store is faithful, and that the journal's places are numbers.
         let _ = self.store.journal().len();
         session.note_leaving(&mut self.register, at, &row);
         Ok(count)
     }
 
     /// Ends a worker, whose session may be anywhere, by one call of the store. The worker gives up each edge that it
-    /// has, by rising name, and retires. Returns how many edges these were. Each of these entries is noted as the
+    /// has, by rising name, and retires. Returns how many edges it gave up. Each of these entries is noted as the
     /// keeper's, and no session has a receipt of it. From then on the worker's own session receives that there is no
     /// such worker. Whether the call is refused or not, the keeper has then seen all entries.
     ///
@@ -326,9 +326,9 @@ impl<L: Round, P: Payload> Locked<L, P> {
         self.store.picture(alloc)
     }
 
-    /// Hands out the entries that the store holds, by one call of the store, if it was shared so that it is handed out
-    /// in parts. They begin at the end of the keeper's part before. Sessions stay as they are. Their receipts are of
-    /// the same entries as before, wherever these are.
+    /// Hands out the entries that the store holds, by one call of the store. The store has to be shared so that its
+    /// journal is handed out in parts. The entries begin at the end of the keeper's part before. Sessions stay as they
+    /// are. Their receipts are of the same entries as before, wherever the entries are.
     pub fn take_journal(&mut self, keeper: &mut Keeper<L>) -> Journal
         requires in_parts { L.start.in_parts ≡ true }
         ensures joined { result.start ≡ keeper.old.next }
@@ -345,7 +345,7 @@ impl<L: Round, P: Payload> Locked<L, P> {
 
     /// Gives up the entries before a place, by one call of the store, where it was shared so as to be handed out in
     /// parts. They count as handed out to the keeper, and the journal keeps their room. All entries are given up if the
-    /// place is after the last one, and none if they were all handed out before. No session is touched.
+    /// place is after the last entry, and none if they were all handed out before. No session is touched.
     pub fn forget(&mut self, keeper: &mut Keeper<L>, upto: u64)
         requires in_parts { L.start.in_parts ≡ true }
         ensures joined { keeper.old.next ≡ self.old.store.handed }
@@ -374,7 +374,7 @@ fn deed_of(command: &Command) -> Deed
     Deed::Plain(*command)
 }
 
-// The place from which on a journal holds its entries, after those before this one are given up.
+// The place from which on a journal holds its entries, after the entries before this place were given up.
 fn place_held(journal: &Journal, upto: u64) -> u64
     ensures { result ≡ max journal.now.start (min upto (length journal.now.entries)) }
 {

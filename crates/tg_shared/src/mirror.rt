@@ -1,4 +1,4 @@
-//! A number that is known in two places: behind the lock, and to the keeper.
+//! A number that is known in two places, in the lock and to the keeper.
 ghost use Rattle.std.specs.Prelude.{◌≡◌, ◌<◌, ◌+◌, ◌^◌};
 
 use std::marker::Model;

@@ -55,8 +55,8 @@ pub(crate) struct Register<L: Round> {
     pub(crate) roll: Roll<Rolled<L>>,
 }
 
-/// What a round is opened with: the blank of its sessions' ledger, that of its keeper's, and a blank roll. The roll
-/// takes a word of memory, and the others take no bytes.
+/// What a round is opened with. It needs the blank of its sessions' ledger, the blank of its keeper's ledger, and a
+/// blank roll. The roll takes a word of memory, and the others take no bytes.
 #[derive(Drop)]
 pub struct Blanks {
     pub sessions: Blank,

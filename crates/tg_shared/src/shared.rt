@@ -1,4 +1,4 @@
-//! The store behind its lock, from sharing it to closing it.
+//! The store in its lock, from sharing it to closing it.
 ghost use Rattle.std.specs.Prelude.{◌≡◌, ◌≤◌, ◌+◌, List, [], false, IfOk, IfErr, length};
 ghost use Rattle.std.specs.List.{All};
 ghost use Rattle.std.specs.List.Sorted.{IsPermutation};
@@ -18,9 +18,9 @@ use std::sync::{Mutex, MutexGuard, Wait};
 use tg_payload::Payload;
 use tg_store::Store;
 
-// How often a call tries the lock before it waits for it, and how many pauses are between two tries: 16,000 pauses at
-// most, which take under a millisecond. A command holds the lock for less than a microsecond, so a try mostly succeeds,
-// and no thread goes to sleep. While the lock is held for long, a thread that waits for it sleeps.
+// How often a call tries the lock before it waits for it. Between two tries are `PAUSES` pauses, which makes at most
+// 16,000 pauses. They take less than a millisecond. A command holds the lock for less than a microsecond. So a try
+// mostly succeeds, and no thread goes to sleep. While the lock is held for long, a thread that waits for it sleeps.
 const TRIES: u32 = 2_000;
 
 const PAUSES: u32 = 8;
@@ -65,7 +65,7 @@ impl<L: Round, P: Payload> SharedStore<L, P> {
     ghost use Rattle.tg_shared.specs.Sessions.{MayShare};
 
     /// Shares a store. Puts it into a lock, and makes a session for each active subject of its graph. The blanks are
-    /// spent, and that of the sessions has to have one part more than vertices may be made. Fails only when out of
+    /// spent. The blank of the sessions has to have one part more than vertices may be made. Fails only when out of
     /// memory.
     ///
     /// The round's start says whether the journal stays whole (`start_of_store`), or may be handed out in parts while
@@ -114,13 +114,13 @@ impl<L: Round, P: Payload> SharedStore<L, P> {
     {
         let SharedStore { locked } = self;
         let locked = locked.into_inner();
-        // It tells what holds of all that is behind a lock.
+        // This call shows what holds of all that is in a lock.
         let _ = locked.store();
         locked
     }
 
-    /// Returns the locked value, as [`into_locked`](SharedStore::into_locked) does, for who still has the keeper. The
-    /// entries that were made for ended workers are exactly those that the keeper made (`sees`). The store holds its
+    /// Returns the locked value, as [`into_locked`](SharedStore::into_locked) does, for a caller that still has the
+    /// keeper. The entries that were made for ended workers are exactly the keeper's (`sees`). The store holds its
     /// entries from the place at which the keeper's last part ended. The keeper has then seen all entries, and is
     /// otherwise as it was.
     pub fn into_locked_with(self, keeper: &mut Keeper<L>) -> Locked<L, P>
@@ -138,30 +138,34 @@ impl<L: Round, P: Payload> SharedStore<L, P> {
 
 /// Ends a round. It hands out the store if all sessions are given back and their receipts are right. The store's
 /// journal has then grown by as many entries as there are receipts. Each entry since the store was shared is in exactly
-/// one of them. The receipts of each session are all its entries, in their order. It is the store that was shared, with
-/// its opening, its limits and its earlier entries. The call is [`SharedStore::into_locked`] and [`Locked::close`] in a
-/// row.
+/// one receipt. The receipts of each session are all its entries, in their order. The store is the store that was
+/// shared, with its opening, its limits and its earlier entries. The call is [`SharedStore::into_locked`] and
+/// [`Locked::close`] in a row.
 ///
-/// `SessionsMissing` is looked for first. If it is returned, more sessions were made than those handed in count for, by
-/// a journal that may have been in the lock. Fewer sessions than there were subjects when the store was shared are
-/// always refused so. If a round ends, the sessions count for exactly as many as its journal says: one for each subject
-/// of the start, and one for each that was made since. `ReceiptMismatch` is returned only if the sessions may not close
-/// with some journal that may have been in the lock. That journal has grown by at least as many entries as they have
-/// receipts. A caller who needs to know of the very journal makes the two calls. Store and sessions then come back, and
-/// the sessions may be in another order. Takes no memory, for n sessions time as n log n, and waits for no lock.
+/// `SessionsMissing` is looked for first. It means that more sessions were made than the given sessions count for, by a
+/// journal that may have been in the lock. Fewer sessions than there were subjects when the store was shared are always
+/// refused so. If a round ends, the sessions count for exactly as many as its journal says. The journal has one for
+/// each subject of the start, and one for each subject that was made since.
+///
+/// `ReceiptMismatch` is returned only if the sessions may not close with some journal that may have been in the lock.
+/// That journal has grown by at least as many entries as the sessions have receipts. A caller who needs to know of the
+/// very journal makes the two calls. Store and sessions then come back, and the sessions may be in another order. For n
+/// sessions the call takes time as n log n. It takes no memory, and waits for no lock.
 ///
 /// In a store that was shared whole no session can hand out a receipt. Then each entry made since is in exactly one
 /// receipt (`whole` of `shared_out`), on the one condition that the keeper may end no worker.
 ///
 /// If the keeper may end workers, the journal may have grown by more entries than there are receipts, because the
-/// keeper made entries for them. [`close_with`] says how many these are.
+/// keeper made entries for them. [`close_with`] says how many entries the keeper made.
 ///
-/// If the keeper may end nobody, `single` speaks of each single session. A session that handed out no receipt and took
-/// over nobody has receipts of all entries of its worker since the store was shared, whatever the other sessions did.
+/// If the keeper may end nobody, `single` speaks of each single session. Suppose that a session handed out no receipt
+/// and took over nobody. Then it has receipts of all entries of its worker since the store was shared, whatever the
+/// other sessions did.
 ///
 /// In every round `signed` says who made each entry since the store was shared. Each session made exactly its own of
-/// these, and they begin with those that the session has seen. So the graph of an answer to a session is that of the
-/// journal up to there ([`an_answer_is_of_the_closed_journal`](crate::laws::an_answer_is_of_the_closed_journal)).
+/// these entries, and they begin with the entries that the session has seen. So an answer to a session is of the graph
+/// after these first entries of the journal. The law is
+/// [`an_answer_is_of_the_closed_journal`](crate::laws::an_answer_is_of_the_closed_journal).
 pub fn close<L: Round, P: Payload>(
     store: SharedStore<L, P>,
     sessions: Vec<Session<L>>,
@@ -180,16 +184,19 @@ pub fn close<L: Round, P: Payload>(
     }
 }
 
-/// Ends a round as [`close`] does, for who still has the keeper. It says exactly which entries each made, also if
-/// workers were ended. The call is [`SharedStore::into_locked_with`] and [`Locked::close`] in a row.
+/// Ends a round as [`close`] does, for a caller that still has the keeper. It says exactly which entries each session
+/// and the keeper made, also if workers were ended. This call is [`SharedStore::into_locked_with`] and
+/// [`Locked::close`] in a row.
 ///
 /// The journal has grown by as many entries as the keeper made for workers that it ended, and as there are receipts. Of
-/// the entries since the store was shared the keeper made exactly those that it has, and each session exactly its own.
-/// All begin with those that each has seen (`signed`). A session whose worker wasn't ended by the keeper has receipts
-/// of all entries of its worker, if it handed out none and took over nobody (`single`). If a store was shared whole,
-/// and the keeper ended nobody, each entry made since is in exactly one receipt, and the receipts of each session are
-/// all its entries (`whole`). The store holds its entries from the place at which the keeper's last part ended. The
-/// keeper has then seen all entries, and is otherwise as it was. Refusals are those of [`close`].
+/// the entries since the store was shared the keeper made exactly its own, and each session exactly its own. All begin
+/// with the entries that each has seen (`signed`).
+///
+/// Suppose that the worker of a session wasn't ended by the keeper, and that the session handed out no receipt and took
+/// over nobody. Then it has receipts of all entries of its worker (`single`). Suppose that a store was shared whole,
+/// and that the keeper ended nobody. Then each entry made since is in exactly one receipt, and the receipts of each
+/// session are all its entries (`whole`). The store holds its entries from the place at which the keeper's last part
+/// ended. The keeper has then seen all entries, and is otherwise as it was. Refusals are those of [`close`].
 pub fn close_with<L: Round, P: Payload>(
     store: SharedStore<L, P>,
     sessions: Vec<Session<L>>,
@@ -214,9 +221,9 @@ pub fn close_with<L: Round, P: Payload>(
 
 /// Takes a store back whose sessions may be lost, if the receipts of the returned sessions are right. Each receipt
 /// matches the journal, and no two sessions are of one worker. The journal has then grown by at least as many entries
-/// as these have receipts (`back`). It has grown by exactly as many if none is missing and no worker was ended. The
-/// call is [`SharedStore::into_locked`] and [`Locked::reclaim`] in a row, and the store has gone on from the shared
-/// one.
+/// as the returned sessions have receipts (`back`). It has grown by exactly as many if no session is missing and no
+/// worker was ended. The call is [`SharedStore::into_locked`] and [`Locked::reclaim`] in a row. The store comes from
+/// the shared store, with all its entries.
 ///
 /// `ReceiptMismatch` is the only refusal. It is returned only if the sessions may not close with some journal that may
 /// have been in the lock, as [`close`] does. Store and sessions then come back, and the sessions may be in another
@@ -248,7 +255,7 @@ fn pause() {
     }
 }
 
-// What was handed in, behind its lock again.
+// The refused store and sessions, with the store in its lock again.
 fn back_behind_its_lock<L: Round, P: Payload>(refused: LockedRefused<L, P>) -> CloseRefused<L, P>
     ensures { (result.sessions.items ≡ refused.sessions.items) × (result.why ≡ refused.why) }
 {

@@ -1,4 +1,4 @@
--- What a client's call says that is refused, after it looked at what is behind the lock.
+-- What a client's call says that is refused, after it looked at what is in the lock.
 use Rattle.std.proofs.Common.{◌≡◌, ◌≢◌, ◌∙◌, ℕ, Result, Ok, Err, ap, refl, subst, sym}
 use Rattle.std.specs.Prelude.{IfErr, OnErr}
 use Rattle.tg_model.specs.declared.command.Command.{Command}

@@ -96,9 +96,9 @@ left_grown worker count old new left same =
     let all = ap length left.entries in
     omega (arith, row, all, length-append old.entries (leaving (graph_of_store old) worker), same)
 
--- ---- what holds behind the lock, all of it
+-- ---- what holds in the lock, all of it
 
--- all that holds behind a lock of what was paid
+-- all that holds in a lock of what was paid
 pub record Holds (till : TillState) (locked : LockedState) : Type 0 where
   pub covered : IsCovered till.left.vertices locked.store
   pub paid : ArePaid till locked

@@ -1,4 +1,4 @@
--- What is paid out of a purse, and what holds behind the lock of a store whose vertices are shared out.
+-- What is paid out of a purse, and what holds in the lock of a store whose vertices are shared out.
 use Rattle.std.specs.Prelude.{◌≡◌, ◌≢◌, ◌↔◌, ◌<◌, ◌≤◌, ◌+◌, ℕ, Result, Err, IfErr, IfOk, OnErr, OnOk, length}
 use Rattle.tg_model.specs.Graph.{ProtectionGraph, IsSubject, listing_of}
 use Rattle.tg_model.specs.declared.command.Deed.{Deed}
@@ -59,7 +59,7 @@ LacksToMake part purse Entries = (part.vertices < purse.vertices) × (purse.entr
 abbrev pub LacksToLeave : ProtectionGraph → ℕ → Portion → Type 0
 LacksToLeave g worker purse = purse.entries ≤ length (listing_of g.label g.made worker)
 
--- ---- behind the lock
+-- ---- in the lock
 
 -- A worker leaves, and pays an entry for each edge that it gives up and one for its retire; or nothing is changed and nothing paid, since
 -- there is no such worker, the purse has too few entries, or memory ran out.
@@ -91,7 +91,7 @@ IsCovered left s = (graph_of_store s).made + left ≤ (graph_of_store s).limit
 abbrev pub IsAnsweredSomehow : SharedStart → SessionState → SessionState → Deed → Type 0
 IsAnsweredSomehow start old new deed = (reply : Reply) × IsAnswered start old new deed reply
 
--- The purse has too few entries for the session's worker to leave a store that may have been behind the lock, and that has exactly the
+-- The purse has too few entries for the session's worker to leave a store that may have been in the lock, and that has exactly the
 -- entries that the session has seen. The fault says so.
 abbrev pub LacksToLeaveAtSeen : SharedStart → SessionState → Portion → ShareFault → Type 0
 LacksToLeaveAtSeen start session purse why =

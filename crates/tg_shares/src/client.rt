@@ -62,7 +62,7 @@ impl<L: Round, V: Ledger, E: Ledger> Client<L, V, E> {
     /// pays one vertex and one entry for it. Whatever other clients made, this call never reports that no more vertices
     /// may be made. A refused call adds no receipt, costs nothing, and hands the draft back.
     ///
-    /// The purse needs a vertex and an entry: [`Purse::may_make`] is the test. The refusals are those of
+    /// The purse needs a vertex and an entry, and [`Purse::may_make`] is the test. The refusals are those of
     /// [`Session::create`](tg_shared::Session::create) without `VerticesFull`.
     pub fn create<P: Payload, R: Wait>(
         &mut self,
@@ -100,7 +100,7 @@ impl<L: Round, V: Ledger, E: Ledger> Client<L, V, E> {
     /// and the purse pays one entry for it. A call that is refused otherwise adds no receipt and costs nothing. A
     /// refused draft is handed back.
     ///
-    /// The purse needs a vertex and an entry: [`Purse::may_make`] is the test. The refusals are those of
+    /// The purse needs a vertex and an entry, and [`Purse::may_make`] is the test. The refusals are those of
     /// [`Session::spawn`](tg_shared::Session::spawn) without `VerticesFull`.
     pub fn spawn<P: Payload, R: Wait>(
         &mut self,
@@ -132,8 +132,8 @@ impl<L: Round, V: Ledger, E: Ledger> Client<L, V, E> {
         spawned
     }
 
-    /// The session's worker leaves, under the lock: it gives up each edge that it has, by rising name, and retires.
-    /// Returns how many edges these were. The purse pays an entry for each edge and one for the retire, and exactly
+    /// The session's worker leaves, under the lock. It gives up each edge that it has, by rising name, and retires.
+    /// Returns how many edges it gave up. The purse pays an entry for each edge and one for the retire, and exactly
     /// these receipts are added.
     ///
     /// A refused leave adds no receipt, costs nothing, and the worker holds what it held. `Share` is reported only if

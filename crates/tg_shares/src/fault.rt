@@ -27,7 +27,7 @@ pub enum LeaveFault {
     /// Its purse has fewer entries than its edges and one more. The keeper can still end it.
     #[error("{0}")]
     Share(ShareFault),
-    /// The store refuses: there is no such worker, or memory ran out.
+    /// The store refuses, because there is no such worker, or memory ran out.
     #[error("{0}")]
     Store(ApplyFault),
 }

@@ -1,4 +1,4 @@
-//! Shares of what all workers of a store need: of the vertices that may be made, and of the entries of its journal.
+//! Shares of what all workers of a store need. These are the vertices that may be made, and the entries of its journal.
 //!
 //! Under a lock one worker may use up all names, and then each create of the others is refused. [`MeteredStore::new`]
 //! shares a store as [`SharedStore::new`](tg_shared::SharedStore::new) does, and also hands out a [`Purse`]. The purse

@@ -1,4 +1,4 @@
-//! What is behind the lock, and what each call does to it.
+//! What is in the lock, and what each call does to it.
 ghost use Rattle.std.specs.Prelude.{◌≡◌, ◌≢◌, ◌<◌, ◌≤◌, ◌+◌, Err, IfOk, IfErr, length, true};
 ghost use Rattle.tg_shares.specs.Shares.{IsCovered};
 ghost use Rattle.tg_shares.specs.Tills.{ArePaid};
@@ -49,10 +49,10 @@ impl<L: Round, V: Ledger, E: Ledger, P: Payload> Metered<L, V, E, P> {
     ghost use Rattle.tg_shared.specs.Sessions.{AreFresh, HoldsWhenFree, MayNote, MayShare, keeper_knowledge, knowledge};
     ghost use Rattle.tg_shares.specs.Shares.{CanPayForVertex, LeavesPaying, MayShareOut, PaysFor, PaysForSpawn, one_entry, one_vertex};
 
-    /// Shares a store as [`Locked::open`] does, and hands out a purse with so many vertices and entries, which all are
-    /// made out of from then on. The first blanks are those of the round. The others have as many parts as the purse
-    /// has vertices and entries, and so many vertices may still be made. All are spent. Fails only when out of memory,
-    /// and hands the store back.
+    /// Shares a store as [`Locked::open`] does, and hands out a purse with so many vertices and entries. From then on
+    /// clients pay for all vertices and entries out of this purse. The first blanks are those of the round. The others
+    /// have as many parts as the purse has vertices and entries, and so many vertices may still be made. All are spent.
+    /// Fails only when out of memory, and hands the store back.
     pub(crate) fn open(
         alloc: Global,
         blanks: Blanks,
@@ -81,14 +81,14 @@ impl<L: Round, V: Ledger, E: Ledger, P: Payload> Metered<L, V, E, P> {
         }
     }
 
-    /// The locked store, without the shares, for who ends the round. Takes no memory.
+    /// The locked store, without the shares, for a caller that ends the round. Takes no memory.
     pub(crate) fn into_locked(self) -> Locked<L, P>
         ensures same { result ≡ self.locked }
         ensures held { HoldsWhenFree L.start result }
         ensures within { length result.store.entries ≤ length L.start.entries + result.entered + E.parts }
     {
         let Metered { locked, till } = self;
-        // They tell what holds of all that is behind a lock.
+        // They show what holds of all that is in a lock.
         let _ = locked.store();
         till.tell();
         locked
@@ -164,7 +164,7 @@ impl<L: Round, V: Ledger, E: Ledger, P: Payload> Metered<L, V, E, P> {
         ensures numbers { KeepsNumbers self.old.locked self.new.locked }
         ensures signed { HasNoted self.old.locked self.new.locked client.old.session client.new.session }
     {
-        // It tells that what is in the purse is left.
+        // This call shows that what is in the purse is left.
         client.purse.tell(&mut self.till);
         match self.locked.create(&mut client.session, label, draft) {
             Ok(name) => {
@@ -175,10 +175,10 @@ impl<L: Round, V: Ledger, E: Ledger, P: Payload> Metered<L, V, E, P> {
         }
     }
 
-    /// Makes a subject with its session, by one call of [`Locked::spawn`]. It is never answered that no more vertices
-    /// may be made, whatever was done before, by whomever. A vertex is paid for; where too many subjects are active an
-    /// entry is, since that has one; and nothing where it is refused otherwise. The new session's share is what its
-    /// maker then splits off.
+    /// Makes a subject with its session, by one call of [`Locked::spawn`]. It never reports that no more vertices may
+    /// be made, whatever anybody did before. A new subject costs a vertex and an entry. A refusal because too many
+    /// subjects are active costs an entry, because it has one. Any other refusal costs nothing. The new session's share
+    /// is what its maker then splits off.
     pub(crate) fn spawn(
         &mut self,
         client: &mut Client<L, V, E>,
@@ -195,7 +195,7 @@ impl<L: Round, V: Ledger, E: Ledger, P: Payload> Metered<L, V, E, P> {
         ensures signed { HasNoted self.old.locked self.new.locked client.old.session client.new.session }
         ensures fresh_seen { IfOk result (λ fresh. fresh.seen ≡ self.new.locked.signed) }
     {
-        // It tells that what is in the purse is left.
+        // This call shows that what is in the purse is left.
         client.purse.tell(&mut self.till);
         match self.locked.spawn(&mut client.session, label, draft) {
             Ok(fresh) => {
@@ -212,9 +212,9 @@ impl<L: Round, V: Ledger, E: Ledger, P: Payload> Metered<L, V, E, P> {
     /// The session's worker leaves, by one call of [`Locked::leave`]. An entry is paid for each edge that it gives up,
     /// and one for its retire. The row may grow until the lock is taken, so the purse is looked at here.
     ///
-    /// Where it is refused nothing is changed and nothing is paid. `Store` with `NoSuchWorker` is answered exactly
-    /// where the session's subject is none any more; `Share` only where the purse has too few entries; else
-    /// `OutOfMemory` alone.
+    /// If it is refused, nothing is changed and nothing is paid. `Store` with `NoSuchWorker` is returned exactly if the
+    /// session's subject is active no more. `Share` is returned only if the purse has too few entries. The only other
+    /// refusal is `OutOfMemory`.
     pub(crate) fn leave(&mut self, client: &mut Client<L, V, E>) -> Result<u64, LeaveFault>
         ensures leaves { LeavesPaying self.old.locked.store self.new.locked.store client.old.session client.new.session client.old.purse client.new.purse result }
         ensures signed { HasNoted self.old.locked self.new.locked client.old.session client.new.session }

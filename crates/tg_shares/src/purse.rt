@@ -1,4 +1,4 @@
-//! Purses: what their holders may still take of vertices and entries.
+//! Purses. They say how many vertices and entries their holders may still take.
 ghost use Rattle.std.specs.Prelude.{◌≡◌, ◌≢◌, ◌↔◌, ◌<◌, ◌≤◌, ◌+◌, ◌^◌, Err, IfOk, OnErr, OnOk};
 ghost use Rattle.tg_shares.specs.declared.fault.Lack.{Lack as LackOf};
 ghost use Rattle.tg_shares.specs.Shares.{CanPayForVertex, LacksToMake, Pays, entries_alone, one_entry, one_vertex};
@@ -29,8 +29,8 @@ impl Portion {
     }
 }
 
-/// The blanks for sharing a store out: one for the vertices that may be made, and one for the entries of the journal.
-/// Whoever shares a store out makes them, and says of which types they are.
+/// The blanks for sharing a store out. There is a blank for the vertices that may be made, and a blank for the entries
+/// of the journal. Whoever shares a store out makes them, and says of which types they are.
 #[derive(Drop)]
 pub struct PurseBlanks {
     pub vertices: Blank,
@@ -50,8 +50,9 @@ impl PurseBlanks {
     }
 }
 
-/// What its holder may still take of a store with shares: so many vertices that may be made, and so many entries. It
-/// isn't copied: what one purse gives another one has no more. One that is dropped is lost with what is in it.
+/// What its holder may still take of a store with shares. It is so many vertices that may be made, and so many entries.
+/// It isn't copied. A purse has no more what it gives to another purse. A purse that is dropped is lost with what is in
+/// it.
 ///
 /// Contracts see the `Portion` that is in it.
 #[derive(Drop)]
@@ -135,8 +136,8 @@ impl<V: Ledger, E: Ledger> Purse<V, E> {
         self.entries += entries;
     }
 
-    /// Whether its holder, a worker, may make a vertex, and hand a part on besides. Refused exactly where the purse has
-    /// no vertex beside these, which is looked at first, or no entry beside these.
+    /// Whether its holder, a worker, may make a vertex, and hand a part on besides. Refused exactly if the purse has no
+    /// vertex beside the part's, which is looked at first, or no entry beside the part's.
     pub fn may_make(&self, worker: u64, part: Portion) -> Result<(), ShareFault>
         ensures may { OnOk result ((part.vertices < self.now.vertices) × (part.entries < self.now.entries)) }
         ensures lacks { (lack : LackOf) → (result ≡ Err (record { worker = worker; lacks = lack })) ↔ LacksToMake part self.now lack }
@@ -204,7 +205,7 @@ impl<V: Ledger, E: Ledger> Purse<V, E> {
         }
     }
 
-    // Changes nothing, and tells that what is in the purse is left.
+    // Changes nothing, and shows that what is in the purse is left.
     pub(crate) fn tell<L: Round>(&mut self, till: &mut Till<L, V, E>)
         ensures same { self.new ≡ self.old }
         ensures till { till.new ≡ till.old }
@@ -214,7 +215,7 @@ impl<V: Ledger, E: Ledger> Purse<V, E> {
     }
 }
 
-/// What purses have paid into: the parts of the two ledgers for vertices and entries that were made.
+/// What purses have paid into. It has the parts of the two ledgers for vertices and entries that were made.
 ///
 /// Contracts see what is left in all purses, also in those that were dropped. They see how many entries there were
 /// before, and how many were given out then.
@@ -263,7 +264,7 @@ impl<L: Round, V: Ledger, E: Ledger> Till<L, V, E> {
         (till, purse)
     }
 
-    // Tells how many entries there were before, and how many were given out.
+    // Shows how many entries there were before, and how many were given out.
     pub(crate) fn tell(&self)
         ensures before { self.now.before ≡ length L.start.entries }
         ensures given { self.now.given ≡ E.parts }

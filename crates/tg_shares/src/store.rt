@@ -1,4 +1,4 @@
-//! A store with shares behind its lock, from sharing it to having it back.
+//! A store with shares in its lock, from sharing it to having it back.
 ghost use Rattle.std.specs.Prelude.{◌≡◌, ◌≢◌, ◌≤◌, ◌+◌, true, Err, IfErr, IfOk, OnErr, length};
 ghost use Rattle.tg_model.specs.Graph.{ProtectionGraph};
 ghost use Rattle.tg_store.specs.Store.{StandsFor};
@@ -41,8 +41,8 @@ pub struct SharedOut<L: Round, V: Ledger, E: Ledger, P: Payload> {
 
 impl<L: Round, V: Ledger, E: Ledger, P: Payload> MeteredStore<L, V, E, P> {
     /// Shares a store as [`SharedStore::new`](tg_shared::SharedStore::new) does, and hands out a purse with so many
-    /// vertices and entries. Each vertex that a client makes is paid out of this purse or of a part of it, and so is
-    /// each entry of a client's call.
+    /// vertices and entries. Each vertex that a client makes, and each entry of a client's call, is paid out of this
+    /// purse or a part of it.
     ///
     /// The first blanks are those of the round. The others have as many parts as the purse has vertices and entries
     /// ([`PurseBlanks::new`]), and so many vertices may still be made. All are spent. Fails only when out of memory,
@@ -97,7 +97,7 @@ impl<L: Round, V: Ledger, E: Ledger, P: Payload> MeteredStore<L, V, E, P> {
     }
 
     /// Ends a worker by its name, wherever its session is, as [`Keeper::end`] does in a store without shares. The
-    /// worker gives up each edge that it has, by rising name, and retires. Returns how many edges these were. No purse
+    /// worker gives up each edge that it has, by rising name, and retires. Returns how many edges it gave up. No purse
     /// pays for these entries. The store has to be shared so that its keeper may end workers.
     ///
     /// The keeper has made exactly the entries by which the named worker leaves, so no other worker stops being a
@@ -124,8 +124,8 @@ impl<L: Round, V: Ledger, E: Ledger, P: Payload> MeteredStore<L, V, E, P> {
         ended
     }
 
-    /// Returns the locked value without the shares: the shared store, which has gone on.
-    /// [`Locked::close`](tg_shared::Locked::close) ends the round with the clients' sessions, and
+    /// Returns the locked value without the shares. It has the store with all entries that were made while it was
+    /// shared. [`Locked::close`](tg_shared::Locked::close) ends the round with the clients' sessions, and
     /// [`Locked::reclaim`](tg_shared::Locked::reclaim) ends it if some are lost. All clients together have made at most
     /// as many entries as the first purse had (`within`). Takes no memory, and waits for no lock.
     pub fn into_locked(self) -> Locked<L, P>

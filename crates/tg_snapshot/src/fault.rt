@@ -17,8 +17,8 @@ pub enum SnapshotFault {
     /// The first subject that isn't above the one before it, that is no vertex of the snapshot, or that is the 65th.
     #[error("subject {at} needs a name above the one before it that a vertex has, and at most 64 are active")]
     BadSubject { at: u64 },
-    /// The first edge that doesn't come after the one before it, by its first end and then by its second, or that joins
-    /// a vertex with itself, or with an end that is no vertex of the snapshot.
+    /// The first edge that doesn't come after the edge before it, by its first end and then by its second. Or the first
+    /// edge that joins a vertex with itself, or has an end that is no vertex of the snapshot.
     #[error("edge {at} needs two different ends that are vertices, which come after those of the edge before it")]
     BadEdge { at: u64 },
 }

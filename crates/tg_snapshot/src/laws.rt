@@ -1,4 +1,4 @@
-//! Laws of snapshots. A function here does nothing: what it ensures is the law. Laws of the histories that go on from a
+//! Laws of snapshots. A function here does nothing. Its `ensures` is the law. Laws of the histories that go on from a
 //! snapshot are in `tg_journal`.
 ghost use Rattle.std.specs.Prelude.{◌≡◌};
 ghost use Rattle.tg_model.specs.Graph.{ProtectionGraph, IsSound};

@@ -1,4 +1,4 @@
-//! Snapshots: what is kept of a graph to go on from it.
+//! Snapshots. A snapshot is what is kept of a graph to go on from it.
 //!
 //! A store can be opened again from its opening and all entries since. That takes as long as its whole life. A
 //! [`Snapshot`] is the short way. It has what the active subjects reach, each vertex with what it stores, and each

@@ -9,9 +9,9 @@ use crate::vertex::ShownVertex;
 use std::marker::Model;
 use tg_model::Picture;
 
-/// What is kept of a graph to go on from it: its picture, in which the active subjects and the edges are those that
-/// subjects reach, each vertex of these with what it stores, and how many entries were made before. Contracts see it
-/// as the record of these, `Saved`, and speak of the graph that it shows, `graph_shown`.
+/// What is kept of a graph to go on from it. It has the active subjects, each vertex that they reach with what it
+/// stores, and the edges of these vertices. It also has how many entries were made before. Contracts see it as the
+/// record of these, `Saved`, and speak of the graph that it shows, `graph_shown`.
 #[derive(Drop)]
 pub struct Snapshot {
     picture: Picture,
@@ -30,10 +30,10 @@ impl Model for Snapshot {
 }
 
 impl Snapshot {
-    /// The snapshot of these lists. All three rise: vertices and subjects by name, edges by the end that holds and
-    /// then by the other. So one graph has one snapshot. A subject and both ends of an edge have a vertex. Each name is
-    /// below the number of vertices made, which is at least 1 and may be above all names. If a list is not as asked,
-    /// its first fault is returned, and what was handed in is dropped. Takes no memory.
+    /// The snapshot of these lists. All three rise. Vertices and subjects rise by name, and edges by the end that holds
+    /// and then by the other. So one graph has one snapshot. A subject and both ends of an edge have a vertex. Each
+    /// name is below the number of vertices made, which is at least 1 and may be above all names. If a list is not as
+    /// asked, its first fault is returned, and what was handed in is dropped. Takes no memory.
     pub fn new(
         picture: Picture,
         vertices: Vec<ShownVertex>,
@@ -66,7 +66,7 @@ impl Snapshot {
         self.vertices.as_slice()
     }
 
-    /// How many entries were made before: the place of the next.
+    /// How many entries were made before, which is the place of the next.
     pub fn entries(&self) -> u64
         ensures { result ≡ self.now.entries }
     {

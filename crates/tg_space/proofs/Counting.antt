@@ -1,4 +1,4 @@
--- How many blocks stand before each space.
+-- How many blocks are before each space.
 use Rattle.std.proofs.Common.{◌≡◌, ◌≢◌, ℕ, zero, suc, ◌<◌, ◌≤◌, ◌^◌, ◌+◌, ◌-◌, ◌++◌, ◌∷◌, ◌⊎◌, inl, inr, List, [], length, get_or, map, set, replicate, take, drop, sym, ap, subst, arith, ◌∙◌, add-one}
 use Rattle.std.proofs.lemmas.List.{get_or-set_other, length-set, length-append, length-map, length-drop, length-take-le, length_push, get_or_append_left, get_or_past, ext_get_or, nil_from_length, get_or-append_right, get_or-map, get_or-drop, get_or-replicate, get_or-set_same, get_or-take, length-replicate, take-set-le, append-nil, drop_all, take_all, take_at}
 use Rattle.std.proofs.lemmas.Grind.{get_or_default_zero}
@@ -18,7 +18,7 @@ module _ (h : SpaceList) (space : ℕ) (low : space < length h) where
   grown : BlockList
   grown = space_of h space ++ free_block ∷ []
 
-  -- up to the space that grew, as many blocks stand before each
+  -- up to the space that grew, as many blocks are before each
   before_kept : (k : ℕ) → k ≤ space → blocks_before (with_block h space) k ≡ blocks_before h k
   before_kept k le = ap (sum_by (λ (blocks : BlockList). length blocks)) (take-set-le k h space (space_of h space ++ free_block ∷ []) le)
 
@@ -43,7 +43,7 @@ module _ (h : SpaceList) (space : ℕ) (low : space < length h) where
             ap (λ (b : BlockList). length b) (get_or-set_other h space j (space_of h space ++ free_block ∷ []) [] other),
           )
 
-  -- and behind it one more
+  -- and after it one more
   before_grown : (k : ℕ) → space < k → k ≤ length h → blocks_before (with_block h space) k ≡ blocks_before h k + 1
   before_grown zero past inside = absurd (omega (arith, past))
   before_grown (suc j) past inside =
@@ -79,7 +79,7 @@ count_grown h space starts low count = record {
     by_space k le (inr kept) =
         get_or_append_left front (map (λ n. n + 1) back) 0 k (omega (arith, short, kept)) ∙ get_or-take (space + 1) starts k 0 (omega (arith, kept)) ∙ count.counts k le ∙ sym (before_kept h space low k kept)
 
--- as the code does it: with the part of the count behind the space
+-- as the code does it: with the part of the count after the space
 pub count_put : (h grown : SpaceList) (space : ℕ) (starts now back : List ℕ) (n : ℕ) → grown ≡ with_block h space → space < length h → IsPrefixCount starts h → now ≡ starts → n ≡ length starts →
     back ≡ map (λ k. k + 1) (take (length now - (space + 1)) (drop (space + 1) now)) →
     let put : List ℕ = put_mid (space + 1) (length now - (space + 1)) now back in
@@ -97,7 +97,7 @@ count_put h grown space starts now back n grown_is low count same long is =
     subst (λ g. IsPrefixCount (take n (put ++ drop (length put) starts)) g) (sym grown_is)
     (subst (λ xs. IsPrefixCount xs (with_block h space)) (sym (take_at put (drop (length put) starts) n whole ∙ put_is)) counted)
 
--- the numbers behind a space can be counted on
+-- the numbers after a space can be counted on
 pub few_behind : (h : SpaceList) (space : ℕ) (starts now : List ℕ) → IsSpaceList h → IsPrefixCount starts h → now ≡ starts → (many : ℕ) →
     All (λ n. n + 1 < 2 ^ 64) (take many (drop (space + 1) now))
 few_behind h space starts now is count same many =
@@ -141,7 +141,7 @@ count_two h many total old is is_many is_old is_total = record {
 
 -- ---- no block behind
 
--- a space behind which all blocks were counted has none
+-- a space after which all blocks were counted has none
 pub empty_behind : (h : SpaceList) (n : ℕ) → n ≤ length h → block_count h ≤ blocks_before h n → IsEmptyFrom n h
 empty_behind h n low all = record { inside = low; empty = λ k le. by_place k le (cases_lt k (length h)) }
   where

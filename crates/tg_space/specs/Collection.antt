@@ -56,7 +56,7 @@ is_copy_in space word = not (word == 0) && ((place_in word).space == space)
 abbrev pub copies_in : List ℕ → ℕ → ℕ
 copies_in forward space = count_by (is_copy_in space) forward
 
--- The new blocks, behind those that Old keeps, stay within the limit, and each space has as many as its copies need; or
+-- The new blocks, after those that Old keeps, stay within the limit, and each space has as many as its copies need; or
 -- at most this many more, where several helpers fill blocks of their own.
 pub record AreFewBlocks (space_blocks kept more : ℕ) (made : Collected) : Type 0 where
   pub aged_within : length made.aged ≤ space_blocks
@@ -98,7 +98,7 @@ pub record IsCollection (kind : Kind) (h : SpaceList) (roots : List Root) (made 
   pub words : (c : ℕ) → IsForwarded h made.forward c → slice_index made.forward c ≡ link_to (new_place made.forward c)
   pub placed : (c : ℕ) → IsForwarded h made.forward c → IsNewPlace kind h made.aged made.old (new_place made.forward c)
   pub copied : (c : ℕ) → IsForwarded h made.forward c → IsImage (from_space kind) h (new_place made.forward) c (cell_at (adopted kind h made.aged made.old) (new_place made.forward c))
-  -- no place stands twice
+  -- no place is there twice
   pub apart : (c d : ℕ) → IsForwarded h made.forward c → d < length (cells_of h) → slice_index made.forward c ≡ slice_index made.forward d → c ≡ d
   -- nothing else is in the new blocks
   pub rest : (p : Place) → IsNewPlace kind h made.aged made.old p → ((c : ℕ) → c < length (cells_of h) → slice_index made.forward c ≢ link_to p) → cell_at (adopted kind h made.aged made.old) p ≡ free_cell

@@ -9,7 +9,7 @@ use Rattle.tg_space.specs.SpaceList.{SpaceList, IsSpaceList, blocks_before, cell
 abbrev pub AreStarts : List ℕ → SpaceList → Type 0
 AreStarts starts h = (length h ≤ length starts) × ((space : ℕ) → space < length h → slice_index starts space ≡ blocks_before h space)
 
--- the number of the cell at a place, where so many blocks stand before each space
+-- the number of the cell at a place, where so many blocks are before each space
 abbrev pub number_by : List ℕ → Place → ℕ
 number_by starts p = CELLS * (slice_index starts p.space + p.block) + p.cell
 

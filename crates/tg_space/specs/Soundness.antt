@@ -54,7 +54,7 @@ pub record IsOldCell (h : SpaceList) (p : Place) : Type 0 where
   pub held : HasCell h p
   pub space : p.space ≡ 0
 
--- a root stands for a row, from its object or from a later cell on, or for a remembered cell of Old
+-- a root represents a row, from its object or from a later cell on, or for a remembered cell of Old
 abbrev pub IsRootIn : SpaceList → Root → Type 0
 IsRootIn h (Row place) = IsKindAt h Object place ⊎ IsKindAt h Chunk place
 IsRootIn h (Remembered place) = IsOldCell h place

@@ -38,7 +38,7 @@ cell_at h p = cell_of (block_of h p.space p.block) p.cell
 
 -- ---- flat numbers
 
--- how many blocks stand before a space
+-- how many blocks are before a space
 abbrev pub blocks_before : SpaceList → ℕ → ℕ
 blocks_before h space = sum_by (λ blocks. length blocks) (take space h)
 

@@ -9,8 +9,8 @@ use tg_closed::{ClosedWords, zeros};
 /// The forwarding words of a collection by one thread. For each cell, by its flat number, there is the word of its new
 /// place, or 0 if it has none. The first cells may be skipped. Their words are always 0, and take no memory.
 ///
-/// The idea is that of a collector's forwarding addresses, kept in a table of their own so that the cells are only read
-/// (Jones, Hosking and Moss, The Garbage Collection Handbook, 2012).
+/// The idea is that of a collector's forwarding addresses (Jones, Hosking and Moss, The Garbage Collection Handbook,
+/// 2012). They are kept in a table of their own, so that the cells are only read.
 #[derive(Drop)]
 pub struct ForwardingTable {
     skipped: u64,
@@ -72,8 +72,9 @@ impl ForwardingTable {
     }
 }
 
-/// The forwarding word of each cell, by its flat number: the word of its new place, or 0 where it has none. The first
-/// cells may be skipped: their words are 0. The others are read where they were given, by one thread or by several.
+/// The forwarding word of each cell, by its flat number. It is the word of its new place, or 0 if it has none. The
+/// first cells may be skipped. Then their words are 0. The others are read where they were given, by one thread or by
+/// several.
 #[derive(Drop)]
 pub struct Forwarding {
     skipped: u64,
@@ -114,7 +115,7 @@ impl Forwarding {
         }
     }
 
-    /// The room that the next collection may use: that of the words, where one thread gave them. Takes no memory.
+    /// The room that the next collection may use. It is that of the words, if one thread gave them. Takes no memory.
     pub(crate) fn into_room(self) -> Vec<u64> {
         match self.words {
             Words::Listed(words) => words,

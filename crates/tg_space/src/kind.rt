@@ -14,7 +14,8 @@ pub enum Kind {
 }
 
 impl Kind {
-    /// Whether a collection moves the cells of a space: a full one all, a nursery collection all but those of Old.
+    /// Whether a collection moves the cells of a space. A full collection moves all cells, and a nursery collection all
+    /// but those of Old.
     #[inline(always)]
     pub fn moves(self, space: u64) -> bool
         ensures { result ≡ from_space self space }

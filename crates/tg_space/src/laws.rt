@@ -1,4 +1,4 @@
-//! Laws of the definitions: no code, each a function whose contract is the law.
+//! Laws of the definitions. There is no code. Each law is the contract of a function.
 ghost use Rattle.std.specs.Prelude.{◌≡◌, ◌≢◌, ◌<◌, ◌↔◌, ◌⊎◌, ℕ, [], List, length, slice_index_or, slice_set};
 ghost use Rattle.std.specs.List.{All, Contains};
 ghost use Rattle.tg_block.specs.Cells.{free_cell};
@@ -45,8 +45,8 @@ pub fn sound_cells_name_used_cells()
     ensures { (h : SpaceList) (roots : List Root) → AreSound h roots → IsSpaceList h → (number : ℕ) → number < length (cells_of h) → All (IsPointer h) (pointers_of (cell_numbered h number)) }
 {}
 
-/// The numbers of the layout: where the parts of a word begin, where the words of a cell are, and how much there may
-/// be.
+/// The numbers of the layout. They say where the parts of a word begin, where the words of a cell are, and how much
+/// there may be.
 pub fn numbers_are_these()
     ensures word { (CELL_AT ≡ 8) × (BLOCK_AT ≡ 14) × (SPACE_AT ≡ 34) × (PRESENT_AT ≡ 41) }
     ensures cell { (WORDS ≡ 8) × (OBJECT_TAG ≡ 1) × (CHUNK_TAG ≡ 2) × (NAME ≡ 1) × (KEY ≡ 2) × (OBJECT_POINTERS ≡ 4) × (CHUNK_POINTERS ≡ 1) × (LINK ≡ 7) }

@@ -31,7 +31,7 @@
 //! **Definitions for several crates above** are in `specs/`. They are the targets of cells and roots, the closure of
 //! the roots as the least set, and the image of a cell under a map to new places. Others say which spaces and roots are
 //! sound, and what a collection of either kind leaves. The module `laws` has what follows from them. The main law is
-//! that of tracing: what was traced from the roots, and is complete, is exactly the closure.
+//! that of tracing. What was traced from the roots, and is complete, is exactly the closure.
 #![tactic(auto)]
 
 pub use adoption::Adoption;

@@ -75,7 +75,7 @@ fn only_block(space: Space) -> Option<Block>
     blocks.pop()
 }
 
-// The block with its first cells zeroed, so many; the others are free.
+// The block with so many first cells zeroed. The other cells are free.
 fn emptied(block: Block, used: u64) -> Block
     requires { IsFreeBehind used (block ∷ []) }
     ensures { result ≡ free_block }

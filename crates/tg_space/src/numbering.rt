@@ -1,5 +1,5 @@
-//! The numbers that the cells of a heap had before a collection. The blocks of from-space may be gone by then: cells
-//! are told by their numbers.
+//! The numbers that the cells of a heap had before a collection. The blocks of from-space may be gone by then, so cells
+//! are named by their numbers.
 ghost use Rattle.std.specs.Prelude.{◌≡◌, ◌<◌, ◌≤◌, ◌^◌, length};
 ghost use Rattle.tg_word.specs.Word.{place_in};
 ghost use Rattle.tg_space.specs.Numbering.{AreStarts, number_by};
@@ -12,8 +12,8 @@ use tg_word::{CELLS, Place, SPACES, number_of, nursery_space, place_of};
 // How many spaces there may be.
 const MOST_SPACES: usize = SPACES as usize;
 
-/// How many blocks stood before each space of a heap, from which the numbers of its cells come. A collection may then
-/// put other blocks in their place.
+/// How many blocks were before each space of a heap. The numbers of its cells come from this. A collection may then put
+/// other blocks in their place.
 #[derive(Drop)]
 pub struct Numbering {
     starts: [u64; MOST_SPACES],
@@ -26,7 +26,7 @@ impl Numbering {
         ensures table { IsSpaceTable spaces.now }
         ensures few { length (cells_of spaces.now.spaces) ≤ 2 ^ 64 }
     {
-        // It tells what holds of all spaces, and that their cells are few.
+        // It shows what holds of all spaces, and that their cells are few.
         let _ = spaces.cells();
         let mut starts = [0; MOST_SPACES];
         let mut before = 0;

@@ -1,4 +1,4 @@
-//! Why there is no room: the one fault of spaces, of commands on a heap, and of collections.
+//! Why there is no room. It is the one fault of spaces, of commands on a heap, and of collections.
 use std::alloc::{AllocError, AllocFailed};
 use thiserror::Error;
 

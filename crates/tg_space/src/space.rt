@@ -115,7 +115,7 @@ impl Space {
 
     /// Adds a block at the end.
     ///
-    /// It is refused only where memory was; then nothing is changed.
+    /// It is refused only if memory runs out. Then nothing is changed.
     #[inline]
     pub fn push(&mut self, block: Block) -> Result<(), AllocError>
         requires { length self.old < MOST_SPACE_BLOCKS }
@@ -129,7 +129,7 @@ impl Space {
 
     /// Adds a block of free cells at the end.
     ///
-    /// It is refused only where memory was; then nothing is changed.
+    /// It is refused only if memory runs out. Then nothing is changed.
     pub fn add_block(&mut self, alloc: Global) -> Result<(), AllocError>
         requires { length self.old < MOST_SPACE_BLOCKS }
         ensures added { OnOk result (self.new ≡ self.old ++ free_block ∷ []) }

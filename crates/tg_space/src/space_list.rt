@@ -1,4 +1,4 @@
-//! A list of spaces: it is made, emptied and filled, and its blocks are counted.
+//! A list of spaces. It is made, emptied and filled, and its blocks are counted.
 ghost use Rattle.std.specs.Prelude.{◌≡◌, ◌++◌, ◌<◌, ◌≤◌, ◌+◌, ◌^◌, [], length, map, replicate, IfOk, OnOk, OnErr};
 ghost use Rattle.std.specs.List.{All};
 ghost use Rattle.tg_word.specs.declared.TheConstants.{MOST_SPACE_BLOCKS};
@@ -34,8 +34,8 @@ pub struct Emptied {
 /// Old is followed by these blocks, Aged is the other ones, and every nursery has none. The answer is the blocks that
 /// were left, with those that Aged had after them, and the first nursery as it was.
 ///
-/// The spaces from a number on, at least 2, have no block: it looks at none of them. It is refused only where memory
-/// was; then nothing is changed.
+/// The spaces from a number on, at least 2, have no block. It looks at none of them. It is refused only if memory runs
+/// out. Then nothing is changed.
 pub fn put_behind(
     alloc: Global,
     spaces: &mut [Space],
@@ -68,7 +68,7 @@ pub fn put_behind(
 
 /// Old is these blocks, and every other space has none. The answer is the blocks that Old had.
 ///
-/// The spaces from a number on, at least 2, have no block: it looks at none of them.
+/// The spaces from a number on, at least 2, have no block. It looks at none of them.
 pub fn put_alone(alloc: Global, spaces: &mut [Space], filled: usize, old: Space) -> Vec<Block>
     requires enough { 2 ≤ filled }
     requires empty { IsEmptyFrom filled spaces.old }
@@ -76,7 +76,7 @@ pub fn put_alone(alloc: Global, spaces: &mut [Space], filled: usize, old: Space)
     ensures whole { IsSpace old }
     ensures spare { result.items ≡ space_of spaces.old 0 }
 {
-    // It tells that these are the blocks of a space (`IsSpace`).
+    // This call shows that these are the blocks of a space (`IsSpace`).
     let _ = old.len();
     let emptied = take_all(alloc, spaces, filled);
     spaces[0] = old;

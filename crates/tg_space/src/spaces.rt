@@ -24,7 +24,8 @@ use tg_word::{CELLS, OLD, Place, nursery_space};
 
 mod numbers;
 
-// How many spare blocks a nursery collection gives back that it doesn't want: so few that it hardly takes longer.
+// How many spare blocks a nursery collection gives back that it doesn't need. They are so few that it hardly takes
+// longer.
 const GIVEN_BACK: u64 = 64;
 
 /// All spaces of a heap: Old, Aged and the nurseries.
@@ -32,9 +33,9 @@ const GIVEN_BACK: u64 = 64;
 pub struct Spaces {
     alloc: Global,
     spaces: Vec<Space>,
-    // How many cells of each space were handed out; 0 for Old and Aged.
+    // How many cells of each space were handed out. It is 0 for Old and Aged.
     used: Vec<u64>,
-    // How many blocks stand before each space, and at last how many there are.
+    // How many blocks are before each space, and at last how many there are.
     starts: Vec<u64>,
     limits: Limits,
     // What the last collection left for the next one to use.
@@ -54,7 +55,7 @@ impl Model for Spaces {
 }
 
 impl Spaces {
-    /// The spaces of a heap with as many nurseries, from 1 to `MAX_NURSERIES`; no space has a block.
+    /// The spaces of a heap with so many nurseries, from 1 to `MAX_NURSERIES`. No space has a block.
     ///
     /// It is refused only where memory was.
     pub fn new(alloc: Global, nurseries: u64, limits: Limits) -> Result<Spaces, AllocError>
@@ -212,7 +213,8 @@ impl Spaces {
         }
     }
 
-    /// Whether a space gets no more blocks: all spaces together have `max_blocks` or more, or it has `space_blocks`.
+    /// Whether a space gets no more blocks. Then all spaces together have `max_blocks` or more, or it has
+    /// `space_blocks`.
     pub fn is_full(&self, space: u64) -> bool
         requires { space < length self.now.spaces }
         ensures { IsTrue result ↔ IsFull self.now space }
@@ -220,9 +222,9 @@ impl Spaces {
         self.blocks() >= self.limits.max_blocks() || self.len(space) >= self.limits.space_blocks()
     }
 
-    /// Adds a block of free cells at the end of a space: the block that a nursery collection kept, or a new one.
+    /// Adds a block of free cells at the end of a space. It is a block that a nursery collection kept, or a new block.
     ///
-    /// It is refused where memory was, and where the space is full; then nothing is changed.
+    /// It is refused if memory runs out, or the space is full. Then nothing is changed.
     pub fn add_block(&mut self, space: u64) -> Result<(), RoomFault>
         requires { space < length self.old.spaces }
         ensures added { OnOk result (self.new ≡ with_spaces self.old (with_block self.old.spaces space)) }
@@ -236,7 +238,7 @@ impl Spaces {
         let block = self.next.take_or_new(self.alloc)?;
         let grown = &mut self.spaces[space as usize];
         grown.push(block)?;
-        // From the space that grew on, one block more stands before each space, and before the end.
+        // From the space that grew on, one block more is before each space, and before the end.
         add_one(&mut self.starts[space as usize + 1..]);
         Ok(())
     }
@@ -269,7 +271,7 @@ impl Spaces {
         Ok(())
     }
 
-    /// What the last collection left, for the next one to use. Nothing is left then; takes no memory.
+    /// What the last collection left, for the next one to use. Nothing is left then. Takes no memory.
     pub fn take_spare(&mut self) -> Spare
         ensures { self.new ≡ self.old }
     {
@@ -337,8 +339,7 @@ impl Spaces {
     }
 }
 
-// How many of so many spare blocks stay behind a nursery collection that emptied so many: the next one may need as
-// many.
+// How many of so many spare blocks stay after a nursery collection that emptied so many: the next one may need as many.
 fn wanted_of(spare: u64, emptied: u64) -> u64 {
     emptied.max(spare.saturating_sub(GIVEN_BACK))
 }

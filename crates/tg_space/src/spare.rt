@@ -29,7 +29,7 @@ impl Spare {
         }
     }
 
-    /// Keeps these blocks for the next collection, but no more than `most`; the others are given back. Takes no memory.
+    /// Keeps these blocks for the next collection, but no more than `most`. The others are given back. Takes no memory.
     pub(crate) fn keep_blocks(&mut self, mut blocks: Vec<Block>, most: u64)
         ensures { self.new.blocks.items ≡ take most blocks.items }
     {

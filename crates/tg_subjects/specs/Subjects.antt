@@ -34,7 +34,7 @@ pub record IsSubjectNamed (subjects : List Subject) (name : ℕ) (s : Subject) :
   pub there : Contains subjects s
   pub named : s.name ≡ name
 
--- the subject that stands at a place of the table has the name
+-- the subject that is at a place of the table has the name
 pub record IsAt (subjects : List Subject) (name at : ℕ) : Type 0 where
   pub inside : at < length subjects
   pub named : (d : Subject) → (slice_index_or subjects at d).name ≡ name

@@ -13,7 +13,7 @@ use tg_word::{MAX_NURSERIES, Place};
 #[derive(Drop)]
 pub struct Subjects {
     items: Vec<Subject>,
-    // A bit for each nursery that a subject holds; there are as many bits as there may be nurseries.
+    // A bit for each nursery that a subject holds. There are as many bits as there may be nurseries.
     held: u64,
 }
 
@@ -46,7 +46,7 @@ impl Subjects {
         })
     }
 
-    /// How many are active, at most `MAX_NURSERIES`. What holds of every table is told here.
+    /// How many are active, at most `MAX_NURSERIES`. This call shows what holds of every table.
     pub fn len(&self) -> usize
         ensures number { result ≡ length self.now }
         ensures subjects { AreSubjects self.now }
@@ -75,7 +75,7 @@ impl Subjects {
 
     /// The least number of a nursery that no active subject holds.
     ///
-    /// There has to be one: fewer than `MAX_NURSERIES` subjects may be active.
+    /// There has to be one, so fewer than `MAX_NURSERIES` subjects may be active.
     pub fn free_nursery(&self) -> u64
         requires { length self.now < MAX_NURSERIES }
         ensures { IsLeastFree self.now result }
@@ -83,7 +83,7 @@ impl Subjects {
         u64::from(self.held.trailing_ones())
     }
 
-    /// Adds a subject, and answers the number of its nursery: the least that is free. It takes no memory.
+    /// Adds a subject, and returns the number of its nursery, which is the least that is free. It takes no memory.
     ///
     /// Its name has to be above all others, and fewer than `MAX_NURSERIES` subjects may be active.
     pub fn add(&mut self, name: u64, place: Place) -> u64
@@ -114,7 +114,7 @@ impl Subjects {
         }
     }
 
-    /// Puts the object of the subject that stands at a place of the table somewhere else. It takes no memory.
+    /// Puts the object of the subject that is at a place of the table somewhere else. It takes no memory.
     ///
     /// There has to be such a subject. All else stays.
     pub fn set_place(&mut self, at: usize, place: Place)
@@ -128,7 +128,7 @@ impl Subjects {
     }
 }
 
-// The subject with a name, if it is there. Where none was retired, it stands at the place with the name's number.
+// The subject with a name, if it is there. Where none was retired, it is at the place with the name's number.
 #[inline(always)]
 fn find_in(subjects: &[Subject], name: u64) -> Option<Subject>
     requires { AreSubjects subjects.now }
@@ -143,7 +143,7 @@ fn find_in(subjects: &[Subject], name: u64) -> Option<Subject>
     Some(subjects[position(subjects, name)?])
 }
 
-// Where the subject with a name stands, if it is there. The one who came last is looked at first.
+// Where the subject with a name is, if it is there. The one who came last is looked at first.
 #[inline(always)]
 fn position(subjects: &[Subject], name: u64) -> Option<usize>
     requires { AreSubjects subjects.now }
@@ -157,7 +157,7 @@ fn position(subjects: &[Subject], name: u64) -> Option<usize>
     }
 }
 
-// The same by halves, since names rise.
+// Where the subject with a name is, found by halves, because names rise.
 fn searched(subjects: &[Subject], name: u64) -> Option<usize>
     requires { AreSubjects subjects.now }
     ensures there { IfSome result (IsAt subjects.now name) }

@@ -7,6 +7,6 @@ join_behind : (word : List ℕ) (words : List (List ℕ)) → word ++ words_behi
 join_behind word [] = append-nil word
 join_behind word (w ∷ ws) = refl
 
--- two words, and others behind them
+-- two words, and others after them
 pub words_join : (first word : List ℕ) (words : List (List ℕ)) → (first ++ 32 ∷ word) ++ words_behind words ≡ join_with_byte 32 (first ∷ word ∷ words)
 words_join first word words = append_assoc first (32 ∷ word) (words_behind words) ∙ ap (λ (text : List ℕ). first ++ 32 ∷ text) (join_behind word words)

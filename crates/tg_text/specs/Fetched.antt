@@ -1,4 +1,4 @@
--- What comes of the next line of a source.
+-- The outcome of the next line of a source.
 use Rattle.std.specs.Prelude.{◌≡◌, ℕ, ◌+◌, ◌≤◌, List, length, Option}
 use Rattle.tg_text.specs.declared.source.Fetched.{Fetched}
 use Rattle.tg_text.specs.declared.source.Fetched.TheVariants.{Line}

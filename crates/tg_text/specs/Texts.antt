@@ -1,4 +1,4 @@
--- The texts of answers: one line each. Numbers are decimal without leading zeros, and rights stand in the order r w t g a l u v.
+-- The texts of answers: one line each. Numbers are decimal without leading zeros, and rights are in the order r w t g a l u v.
 use Rattle.std.specs.Prelude.{ℕ, List, [], ◌∷◌, ◌++◌, Option, Some, None, codes, decimal}
 use Rattle.std.specs.List.{flat_map}
 use Rattle.tg_rights.specs.RightSet.{RightSet, text_of}

@@ -1,8 +1,8 @@
 //! The lines of a source, byte by byte.
 //!
-//! A line that the source holds whole is taken at once. For any other the source is asked for one byte at a time, and
-//! never for a byte behind the first fault: that is why a fault is then looked for at each byte, and not when a line is
-//! whole. Bytes of a line lie in one buffer, which serves all lines.
+//! A line that the source holds whole is taken at once. For any other line the source is asked for one byte at a time,
+//! and never for a byte after the first fault. Therefore a fault is then looked for at each byte, and not when a line
+//! is whole. Bytes of a line lie in one buffer, which serves all lines.
 ghost use Rattle.std.specs.Prelude.{◌≡◌, ◌+◌, ◌≤◌, true, false, length};
 ghost use Rattle.tg_text.specs.declared.buffer.TheConstants.{MOST_LINE_BYTES};
 ghost use Rattle.tg_text.specs.declared.fetch.TheConstants.{MOST_BYTES};
@@ -59,8 +59,8 @@ impl Lines {
         self.next_line_by_bytes(source, sink, line)
     }
 
-    // Reads the next line into the buffer where the source holds all of it, and answers whether it did; else nothing is
-    // read.
+    // Reads the next line into the buffer if the source holds all of it, and returns whether it did. Otherwise nothing
+    // is read.
     #[inline(always)]
     fn take_held<S: Source>(&mut self, source: &mut S, line: &mut LineBuffer) -> bool
         ensures bytes { TakesLineAtOnce (S.left source.old) result line.new (S.left source.new) }

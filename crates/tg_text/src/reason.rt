@@ -1,6 +1,6 @@
 //! Why the text is no line of a script, for who wrote it.
 //!
-//! It is looked for only where no line was read, and nothing depends on it: the first reason that fits is told.
+//! It is looked for only if no line was read, and nothing depends on it. The first reason that fits is returned.
 
 use crate::buffer::MOST_LINE_BYTES;
 use crate::line::Line;
@@ -17,7 +17,7 @@ const NO_LINE: &str = "no line of the grammar";
 // The letters of the rights, in their order.
 const LETTERS: &[u8] = b"rwtgaluv";
 
-// Where a text stands in a line.
+// Where a text is in a line.
 #[derive(Clone, Copy)]
 enum StrayPlace {
     Front,
@@ -25,7 +25,7 @@ enum StrayPlace {
     End,
 }
 
-// What stands nowhere in a line of the grammar, whatever its words are, and what is said of it.
+// What is nowhere in a line of the grammar, whatever its words are, and what is said of it.
 const STRAYS: &[(StrayPlace, &str, &str)] = &[
     (StrayPlace::Front, "\u{feff}", "a byte order mark"),
     (
@@ -40,21 +40,21 @@ const STRAYS: &[(StrayPlace, &str, &str)] = &[
     (StrayPlace::Inside, "  ", "two spaces side by side"),
 ];
 
-// What a word behind a command's own is.
+// What a word after a command's own is.
 #[derive(Clone, Copy)]
 enum ArgumentKind {
     Number,
     Rights,
 }
 
-// What stands behind the word of an edge line.
+// What comes after the word of an edge line.
 const EDGE: &[ArgumentKind] = &[
     ArgumentKind::Number,
     ArgumentKind::Number,
     ArgumentKind::Rights,
 ];
 
-// What may stand behind the word of a command, and one text of it.
+// What may come after the word of a command, and one text of it.
 const BEHIND: &[(&[ArgumentKind], &str)] = &[
     (&[], ""),
     (&[ArgumentKind::Number], " 0"),
@@ -71,7 +71,7 @@ const BEHIND: &[(&[ArgumentKind], &str)] = &[
     ),
 ];
 
-// The longest word of a command has fewer bytes, and so has each text of what stands behind one.
+// The longest word of a command has fewer bytes, and so has each text that comes after a word.
 const MOST_WORD_BYTES: usize = 20;
 
 /// Says why a line of a script is bad. The line is given without its line feed, with whether it had one, and with the
@@ -89,7 +89,7 @@ pub fn reason_of(line: &[u8], is_ended: bool, workers: u64) -> &'static str {
     }
 }
 
-// Why an edge line may not stand where it stands.
+// Why an edge line may not be at its place.
 fn reason_of_edge(edge: Edge, workers: u64) -> &'static str {
     if edge.from == edge.to {
         "an edge joins two different workers"
@@ -146,7 +146,7 @@ fn reason_of_letters(line: &[u8]) -> Option<&'static str> {
     reason
 }
 
-// What is wrong with the words, which have one space between them, and none behind the last.
+// What is wrong with the words, which have one space between them, and none after the last.
 fn reason_of_words(line: &str) -> &'static str {
     let (first, rest) = cut(line);
     if first == "edge" {
@@ -168,7 +168,7 @@ fn is_collection(word: &str) -> bool {
     word == "full" || word == "minor"
 }
 
-// What is wrong behind the worker's name.
+// What is wrong after the worker's name.
 fn reason_of_command(words: &str) -> &'static str {
     let (command, rest) = cut(words);
     if let Some(kinds) = kinds_behind(command) {
@@ -183,7 +183,7 @@ fn reason_of_command(words: &str) -> &'static str {
     }
 }
 
-// What stands behind the command's word, where it is one: where some line has it.
+// What comes after the command's word, if some line has this word.
 fn kinds_behind(word: &str) -> Option<&'static [ArgumentKind]> {
     for (kinds, text) in BEHIND {
         if is_command(word.as_bytes(), text.as_bytes()) {
@@ -193,7 +193,7 @@ fn kinds_behind(word: &str) -> Option<&'static [ArgumentKind]> {
     None
 }
 
-// Whether the word is that of a command that has this text behind it.
+// Whether the word is that of a command that has this text after it.
 fn is_command(word: &[u8], text: &[u8]) -> bool {
     if word.len() > MOST_WORD_BYTES || text.len() > MOST_WORD_BYTES {
         return false;
@@ -207,7 +207,7 @@ fn is_command(word: &[u8], text: &[u8]) -> bool {
     read_line(&line[..end]).is_some()
 }
 
-// What is wrong with the words behind the command's.
+// What is wrong with the words after the command's.
 fn reason_of_arguments(kinds: &[ArgumentKind], words: &str) -> &'static str {
     let mut left = words;
     for kind in kinds {
@@ -228,7 +228,7 @@ fn reason_of_arguments(kinds: &[ArgumentKind], words: &str) -> &'static str {
     }
 }
 
-// The first word, and what stands behind its space. Either is empty where there is none.
+// The first word, and what comes after its space. Either is empty where there is none.
 fn cut(words: &str) -> (&str, &str) {
     match words.split_once(' ') {
         Some(parts) => parts,
@@ -279,7 +279,7 @@ fn reason_of_rights(word: &[u8]) -> Option<&'static str> {
     None
 }
 
-// Why a right may not stand behind the last one.
+// Why a right may not come after the right before it.
 fn reason_of_right(letter: u8, last: Option<u8>) -> &'static str {
     if !LETTERS.contains(&letter) {
         "rights are letters out of r w t g a l u v"
@@ -290,7 +290,7 @@ fn reason_of_right(letter: u8, last: Option<u8>) -> &'static str {
     }
 }
 
-// The letters behind this one, where it is among them.
+// The letters after this one, where it is among them.
 fn behind(letters: &[u8], letter: u8) -> Option<&[u8]> {
     for (at, right) in letters.iter().enumerate() {
         if *right == letter {

@@ -1,5 +1,5 @@
-//! Which line some bytes are, and whether it may stand where it stands: edges between the opening's workers stand in
-//! front of all others.
+//! Which line some bytes are, and whether it may be at its place. Edges between the opening's workers come before all
+//! other lines.
 ghost use Rattle.std.specs.Prelude.{◌≡◌, ◌↔◌, IsTrue, IfSome, IfNone};
 ghost use Rattle.tg_text.specs.Grammar.{LineFits, line_text};
 ghost use Rattle.tg_text.specs.Reading.{MayStand, IsBadText, opening_after};

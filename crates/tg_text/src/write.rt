@@ -62,7 +62,7 @@ pub fn line_bytes(alloc: Global, line: Line) -> Result<Vec<u8>, AllocError>
     bytes_counted::<Brand>(alloc, Blank::new(1), line)
 }
 
-// The ledger counts how often memory is wanting.
+// The ledger counts how often memory runs out.
 fn bytes_counted<L: Ledger>(alloc: Global, blank: Blank, line: Line) -> Result<Vec<u8>, AllocError>
     requires { MayCount L.name L.parts blank }
     ensures { IfOk result (λ text. text.items ≡ line_text line) }
@@ -76,7 +76,7 @@ fn bytes_counted<L: Ledger>(alloc: Global, blank: Blank, line: Line) -> Result<V
     }
 }
 
-// Writes the words of an edge: two vertices and rights, as behind a take.
+// Writes the words of an edge: two vertices and rights, as after a take.
 fn write_edge<K: Sink>(sink: &mut K, edge: Edge) -> Result<(), WriteFailed>
     ensures { Writes (K.taken sink.old) (K.failures sink.old) (line_text (Line.Edge edge)) result
         (K.taken sink.new) (K.failures sink.new) }
@@ -119,7 +119,7 @@ fn write_front<K: Sink>(sink: &mut K, worker: u64, word: &[u8]) -> Result<(), Wr
     put_texts(sink, &[digits.format(worker).as_bytes(), b" ", word])
 }
 
-// Writes what stands behind the word of a command, each word behind a space.
+// Writes what comes after the word of a command, each word after a space.
 #[inline(always)]
 fn write_arguments<K: Sink>(sink: &mut K, arguments: Arguments) -> Result<(), WriteFailed>
     ensures { Writes (K.taken sink.old) (K.failures sink.old) (words_behind (words_of_arguments arguments)) result
@@ -171,7 +171,7 @@ fn write_move<K: Sink>(sink: &mut K, via: u64, target: u64, label: Label) -> Res
     write_held(sink, target, label)
 }
 
-// Writes a number behind a space.
+// Writes a number after a space.
 fn write_number<K: Sink>(sink: &mut K, number: u64) -> Result<(), WriteFailed>
     ensures { Writes (K.taken sink.old) (K.failures sink.old) (32 ∷ decimal number) result
         (K.taken sink.new) (K.failures sink.new) }
@@ -180,7 +180,7 @@ fn write_number<K: Sink>(sink: &mut K, number: u64) -> Result<(), WriteFailed>
     put_texts(sink, &[b" ", digits.format(number).as_bytes()])
 }
 
-// Writes rights behind a space.
+// Writes rights after a space.
 fn write_rights<K: Sink>(sink: &mut K, label: Label) -> Result<(), WriteFailed>
     ensures { Writes (K.taken sink.old) (K.failures sink.old) (32 ∷ text_of label) result
         (K.taken sink.new) (K.failures sink.new) }

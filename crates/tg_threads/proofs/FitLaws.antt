@@ -22,12 +22,12 @@ use Rattle.tg_threads.specs.Output.{Arena, Tells, AreTold, is_retire_of, served_
 use Rattle.tg_threads.specs.Tasks.{RunsOne, Runs, served_past}
 use Rattle.tg_threads.proofs.TellLaws.{Within, made_by, nobodys_told, others_retire, told_same}
 
--- the entry at a place that is told
+-- the entry at a place that is reported
 abbrev pub entry_at : List Entry → Told → Option Entry
 entry_at entries (came.Entered at) = slice_get entries at
 entry_at entries t = None
 
--- the entries that are told of, in this order
+-- the reported entries, in this order
 abbrev pub made_of : List Entry → List Told → List Entry
 made_of entries ts = flat_map (λ t. option_to_list (entry_at entries t)) ts
 
@@ -43,7 +43,7 @@ FitAll arena served entries bs ts = ⊥
 
 -- ---- one worker's lines
 
--- what the line came to, its entry, and the receipts behind its own
+-- what the line came to, its entry, and the receipts after its own
 one_fits : (arena : Arena) (x : ℕ) (served : ℕ → Bool) (entries : List Entry) (b : Boxed) (t : Told) (more rs : List Receipt) → RunsOne arena served b t more → All (Stands entries x) (more ++ rs) →
     Fits arena served entries b t × (option_to_list (entry_at entries t) ≡ map (λ r. r.entry) more) × All (Stands entries x) rs
 one_fits arena x served entries b (came.Entered at) more rs h stands =
@@ -100,7 +100,7 @@ behind_past entries served l t there = refl
 abbrev Seen : Type 0
 Seen = ℕ → ℕ → Bool
 
--- and behind a line, which one of them ran
+-- and after a line, which one of them ran
 abbrev seen_past : ℕ → Seen → Line → Told → Seen
 seen_past workers seen l t x = cond (is_run_by workers x l) (served_past (seen x) l t) (seen x)
 
@@ -148,7 +148,7 @@ woven arena workers served seen entries (b ∷ bs) (t ∷ ts) low within same co
       (told_same arena workers y (seen y) served b.line b.value (entry_at entries t) (told_answer entries t) by (same y below) fits.0, fits.1)
 woven arena workers served seen entries bs ts low within same commands nobodys own = absurd nobodys
 
--- the lines and their entries are told, in order
+-- the lines and their entries are reported, in order
 pub fit_told : (arena : Arena) (served : ℕ → Bool) (entries : List Entry) (bs : List Boxed) (ts : List Told) → FitAll arena served entries bs ts → AreTold arena served bs (made_of entries ts) (text_of_told entries ts)
 fit_told arena served entries [] [] h = (refl, refl)
 fit_told arena served entries (b ∷ bs) (t ∷ ts) h = (

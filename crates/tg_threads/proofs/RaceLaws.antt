@@ -1,4 +1,4 @@
--- What comes of a whole race, from what its parts did.
+-- The outcome of a whole race, from what its parts did.
 use mathlib.Core.Bool.{false≢true}
 use Rattle.std.proofs.Common.{Bool, ◌≡◌, ◌⊎◌, ◌+◌, ◌<◌, ◌≤◌, arith, inl, inr, ℕ, List, [], ◌∷◌, ◌++◌, Option, Some, None, Result, Ok, Err, refl, sym, ap, ◌∙◌, subst, append-nil, length}
 use Rattle.std.specs.Prelude.{IfErr, IsErrAnd, IsOk, IsSome, OnOk, map}
@@ -50,13 +50,13 @@ fresh_length workers sessions fresh =
 
 -- ---- the lines of a script that was read
 
--- all edges stand in front
+-- all edges are in front
 pub edges_before : (edges : List Edge) (lines : List Line) → All IsCommand lines → edges_of (edge_lines edges ++ lines) ≡ edges
 edges_before [] (line.Edge e ∷ lines) h = absurd (false≢true (All-head IsCommand (line.Edge e) lines h).0)
 edges_before (e ∷ edges) lines h = ap (λ es. e ∷ es) (edges_before edges lines h)
 edges_before [] lines h = refl
 
--- and the other lines behind them
+-- and the other lines after them
 pub commands_behind : (edges : List Edge) (lines : List Line) → All IsCommand lines → commands_of (edge_lines edges ++ lines) ≡ lines
 commands_behind [] (line.Edge e ∷ lines) h = absurd (false≢true (All-head IsCommand (line.Edge e) lines h).0)
 commands_behind (e ∷ edges) lines h = commands_behind edges lines h
@@ -138,7 +138,7 @@ unshared {T} r race_text start bytes before left lines after is whole kept =
     let P : Result T RaceFault → Type 0 = λ x. HasRaced race_text start bytes before x left after in
     subst P (sym is) (lines, whole, kept)
 
--- the audit of a store that gave no entry up is refused for want of memory alone
+-- the audit of a store that gave no entry up is refused for lack of memory alone
 pub own_audit_fault : {A B : Type 0} (handed : ℕ) (shown : Option B) (r : Result A StoreAuditFault) (f : StoreAuditFault) → r ≡ Err f → handed ≡ 0 → shown ≡ None → (r ≡ Err audit.NotWhole → (0 < handed) ⊎ IsSome shown)
     → (f ≡ audit.NotWhole) ⊎ (f ≡ audit.OutOfMemory) → f ≡ audit.OutOfMemory
 own_audit_fault handed shown r f was none first gave (inl not_whole) = lacks (gave (was ∙ ap (λ (why : StoreAuditFault). Err why) not_whole))

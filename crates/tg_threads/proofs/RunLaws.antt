@@ -68,13 +68,14 @@ answer_grows start old new d r h =
 pub heap_front : {A : Type 0} (start : SharedStart) (seen : List Signed) (P : StoreState → Type 0) → (A → AtSeen start seen P) → A → AtFront start (entries_of seen) P
 heap_front start seen P told is = front_seen start seen P (told is)
 
--- what is told of an answer, with its place
+-- what is reported of an answer, with its place
 pub told_of_answer : (start : SharedStart) (old new : SessionState) (d : Deed) (r : Reply) (t : Told) → IsAnswered start old new d r → ((front : List Receipt) (last : Receipt) → new.receipts ≡ front ++ last ∷ [] → t ≡ came.Entered last.at) → HasAsked start d t old new
 told_of_answer start old new d r t h entered =
     let e : Entry = record { worker = old.worker; deed = d; reply = r } in
     subst (λ (a : Told). HasAsked start d a old new) (sym (entered old.receipts (receipt_of (length start.entries + length h.before) e) h.receipt.1)) (r, h.receipt, answer_grows start old new d r h)
 
--- What a deed comes to that made no vertex, of a worker that is a subject: what a script is told, and no receipt, or the entry.
+-- What a deed comes to that made no vertex, of a worker that is a subject: what a script gets, and no receipt, or the
+-- entry.
 pub vertex_not_made : (start : SharedStart) (d : Deed) (why : CreateFault) (t : Told) (old new : SessionState) → (why ≡ create.HeapFull → IsOfStore start (entries_of new.seen) old.worker d refusal.Heap) → why ≢ create.NoSuchWorker →
     (why ≡ create.VerticesFull → IsAnswered start old new d reply.VerticesFull) → (why ≡ create.WorkersFull → IsAnswered start old new d reply.WorkersFull) → (why ≢ create.VerticesFull → why ≢ create.WorkersFull → HasLooked old new) →
     ((r : Refusal) → create_answer why ≡ answer.Refused r → t ≡ came.Refused r) →
@@ -87,7 +88,7 @@ vertex_not_made start d create.OutOfMemory t old new makes there full crowded ke
 vertex_not_made start d create.HeapFull t old new makes there full crowded kept refused entered =
     subst (λ (a : Told). HasAsked start d a old new) (sym (refused refusal.Heap refl)) (makes refl, kept (λ e. let no : ⊥ = cc in no) (λ e. let no : ⊥ = cc in no))
 
--- the same of what a session that made no vertex is told, where it is told anything
+-- the same of what a session that made no vertex gets, where it gets anything
 pub not_made_asked : (start : SharedStart) (d : Deed) (why : CreateFault) (r : Result Told ThreadsFault) (old new : SessionState) → (why ≡ create.HeapFull → IsOfStore start (entries_of new.seen) old.worker d refusal.Heap) → ((r ≡ Err threads.NoSuchWorker) ↔ (why ≡ create.NoSuchWorker)) →
     (why ≡ create.VerticesFull → IsAnswered start old new d reply.VerticesFull) → (why ≡ create.WorkersFull → IsAnswered start old new d reply.WorkersFull) → (why ≢ create.VerticesFull → why ≢ create.WorkersFull → HasLooked old new) →
     ((x : Refusal) → create_answer why ≡ answer.Refused x → IfOk r (λ t. t ≡ came.Refused x)) →
@@ -184,7 +185,7 @@ as_served : (b : Bool) (asked : Type 0) (e : Option Entry) (a : Answer) → b �
 as_served true asked e a is h = h
 as_served false asked e a is h = absurd (false≢true is)
 
--- the entry of a deed, and a refusal of the store, as a line of x is told of them
+-- the entry of a deed, and a refusal of the store, as a line of x is reported of them
 asked_told : (arena : Arena) (workers x : ℕ) (served : ℕ → Bool) (d : Deed) (e : Option Entry) (a : Answer) (old : SessionState) → runner_named workers x ≡ Some old.worker → served old.worker ≡ true → EntersOrRefuses arena.shared arena.entries old.worker d e a → IsServed (served x) (EntersOrRefuses arena.shared arena.entries x d e a) e a
 asked_told arena workers x served d e a old by is h =
     as_served (served x) (EntersOrRefuses arena.shared arena.entries x d e a) e a (served_by workers x served old by is) (subst (λ n. EntersOrRefuses arena.shared arena.entries n d e a) (sym (named x workers old.worker by).1) h)
@@ -252,7 +253,7 @@ looked_each old new sessions looked = still_each old new sessions (ap subjects_s
 
 -- ---- many lines
 
--- whose lines are run behind all of them
+-- whose lines are run after all of them
 abbrev pub served_after : (ℕ → Bool) → List Boxed → List Told → ℕ → Bool
 served_after served (b ∷ bs) (t ∷ ts) = served_after (served_past served b.line t) bs ts
 served_after served bs ts = served
@@ -281,7 +282,7 @@ all_next {X = X} P xs x ys all is h = go xs (subst (All P) (sym is) h) where
 pub mapped_at : {X Y : Type 0} (f : X → Y) (P : Y → Type 0) (xs : List X) (x : X) (ys all : List X) → (xs ++ x ∷ []) ++ ys ≡ all → All P (map f all) → P (f x)
 mapped_at f P xs x ys all is h = all_next (λ x. P (f x)) xs x ys all is (mapped_each f P all h)
 
--- Lines of worker x were run, came to this, and its lines are run behind them or not.
+-- Lines of worker x were run, came to this, and its lines are run after them or not.
 pub record HasRunSo (shared : SharedStart) (helpers workers x : ℕ) (served : Bool) (bs : List Boxed) (ts : List Told) (s : SessionState) : Type 0 where
   pub worker : s.worker ≡ x
   pub handed : s.handed ≡ 0

@@ -1,4 +1,4 @@
--- What is told of one line.
+-- What is reported of one line.
 use Rattle.std.proofs.Common.{◌≡◌, ◌<◌, ◌==◌, eqb-true, ℕ, Bool, true, false, cond, Option, Some, None, refl, sym, ap, ◌∙◌, subst}
 use Rattle.std.specs.Prelude.{nat_lt}
 use Rattle.std.specs.Option.{option_map_or}
@@ -31,7 +31,7 @@ Within workers served = (x : ℕ) → served x ≡ true → x < workers
 pub thread_within : (workers : ℕ) → Within workers (has_thread workers)
 thread_within workers x is = ltb-true x workers is
 
--- ---- what is told of an entry
+-- ---- what is reported of an entry
 
 -- where there is an entry the worker's lines are run
 pub asked_of : (b : Bool) (asked : Type 0) (e : Entry) (a : Answer) → IsServed b asked (Some e) a → (b ≡ true) × asked
@@ -79,7 +79,7 @@ nobodys_told arena workers served l box within command by = refused l command by
   refused (line.Plain x c) command by = refused_of (served x) (EntersOrRefuses arena.shared arena.entries x (deed.Plain c) None (answer.Refused refusal.Worker)) (unserved x by)
   refused l command by = absurd (none_is_some 0 (sym by))
 
--- what is told of a line of y rests on whether the lines of y are run
+-- what is reported of a line of y rests on whether the lines of y are run
 pub told_same : (arena : Arena) (workers y : ℕ) (served other : ℕ → Bool) (l : Line) (box : Option Value) (e : Option Entry) (a : Answer) → runner_of workers l ≡ Some y → served y ≡ other y → Tells arena served l box e a → Tells arena other l box e a
 told_same arena workers y served other l box e a by same h = told l by h where
   as_own : (x : ℕ) → cond (nat_lt x workers) (Some x) None ≡ Some y → served x ≡ other x

@@ -1,5 +1,5 @@
 -- What is written for a script whose workers run their lines side by side. Nothing here knows of threads, or of how replies are
--- kept and put out; of the lock only that some store may have been behind it.
+-- kept and put out; of the lock only that some store may have been after it.
 use Rattle.std.specs.Prelude.{◌≡◌, ◌≢◌, ◌⊎◌, ℕ, ◌==◌, Bool, true, false, if◌then◌else◌, nat_lt, List, [], ◌∷◌, ◌++◌, length, Option, Some, None}
 use Rattle.std.specs.List.{All, filter}
 use Rattle.std.specs.Option.{option_to_list}
@@ -48,7 +48,7 @@ pub record Arena : Type 0 where
 abbrev pub arena_of : SharedStart → ℕ → List Entry → Arena
 arena_of shared helpers entries = record { shared = shared; helpers = helpers; entries = entries }
 
--- This holds of some store that may have been behind the lock, and whose entries since it was shared are the first of these.
+-- This holds of some store that may have been in the lock, and whose entries since it was shared are the first of these.
 abbrev pub AtFront : SharedStart → List Entry → (StoreState → Type 0) → Type 0
 AtFront shared entries holds = AtSome shared (λ s. BeginsWith entries (since shared s) × holds s)
 
@@ -73,12 +73,12 @@ abbrev pub is_retire_of : ℕ → Line → Bool
 is_retire_of x (line.Plain y Retire) = y == x
 is_retire_of x l = false
 
--- Whose lines are run behind this one: a worker's are not, where this is its retire and has its entry.
+-- Whose lines are run after this one: a worker's are not, where this is its retire and has its entry.
 abbrev pub served_behind : (ℕ → Bool) → Line → Option Entry → ℕ → Bool
 served_behind served l None = served
 served_behind served l (Some e) = λ x. if is_retire_of x l then false else served x
 
--- ---- what is told of one line: the entry that it made, if any, and the answer
+-- ---- what is reported of one line: the entry that it made, if any, and the answer
 
 -- refused, without an entry
 abbrev pub IsRefused : Refusal → Option Entry → Answer → Type 0
@@ -131,7 +131,7 @@ abbrev pub TellsCollection : Arena → Kind → Option Entry → Answer → Type
 TellsCollection arena k e a =
     (e ≡ None) × (((kept : Option ℕ) × IsCountTold arena.shared arena.entries k kept × (a ≡ told.Collected kept)) ⊎ ((r : Refusal) × IsUncollected arena k r × (a ≡ told.Refused r)))
 
--- What is told of a line, where the lines of these workers are run.
+-- What is reported of a line, where the lines of these workers are run.
 abbrev pub Tells : Arena → (ℕ → Bool) → Line → Option Value → Option Entry → Answer → Type 0
 Tells arena served (line.Edge edge) box e a = ⊥
 Tells arena served (line.Create x label) box e a = IsServed (served x) (TellsMade arena.shared arena.entries x (create_of label) box e a) e a
@@ -149,7 +149,7 @@ AreTold arena served (b ∷ bs) made text =
     (e : Option Entry) × (a : Answer) × (more : List Entry) × (rest : List ℕ) × Tells arena served b.line b.value e a
     × (made ≡ option_to_list e ++ more) × (text ≡ answer_text a ++ rest) × AreTold arena (served_behind served b.line e) bs more rest
 
--- the history has exactly these entries, and those of each worker in this order; entries of different workers may stand in any
+-- the history has exactly these entries, and those of each worker in this order; entries of different workers may be in any
 abbrev pub HasEach : List Entry → List Entry → Type 0
 HasEach entries made = (x : ℕ) → filter (λ e. e.worker == x) entries ≡ filter (λ e. e.worker == x) made
 
@@ -157,7 +157,7 @@ HasEach entries made = (x : ℕ) → filter (λ e. e.worker == x) entries ≡ fi
 abbrev pub RaceText : Type 0
 RaceText = Plan → List Entry → List ℕ → List ℕ
 
--- the replies, and behind them how many entries there are
+-- the replies, and after them how many entries there are
 abbrev pub reply_race : RaceText
 reply_race p entries replies = replies ++ end_text (length entries)
 
@@ -165,11 +165,11 @@ reply_race p entries replies = replies ++ end_text (length entries)
 abbrev pub entry_race : RaceText
 entry_race p entries replies = history_text p entries
 
--- The text may be written for these lines: their opening is accepted, and there is a legal history of it whose entries are those of
--- the command lines, one for each that has one and no other, each worker's in script order; and the replies tell in script order
--- the reply of each entry where its line stands, a refusal for each command line without an entry, and one line for each
--- collection. The store was one of that opening when it was shared. A refusal for room in the heap, and the number of a collection, are
--- of a store that may have been behind the lock with the first of these entries. Of the replies the text is made.
+-- The text may be written for these lines: their opening is accepted, and there is a legal history of it whose entries are those of the
+-- command lines, one for each that has one and no other, each worker's in script order; and the replies tell in script order the reply
+-- of each entry where its line stands, a refusal for each command line without an entry, and one line for each collection. The store
+-- was one of that opening when it was shared. A refusal for room in the heap, and the number of a collection, are of a store that may
+-- have been in the lock with the first of these entries. Of the replies the text is made.
 pub record IsRaceOutput (race_text : RaceText) (start : Start) (lines : List Line) (text : List ℕ) : Type 0 where
   pub shared : SharedStart
   pub entries : List Entry

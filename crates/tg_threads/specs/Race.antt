@@ -1,4 +1,4 @@
--- What comes of a whole script whose workers run their lines side by side.
+-- The outcome of a whole script whose workers run their lines side by side.
 use Rattle.std.specs.Prelude.{◌≡◌, ◌⊎◌, ℕ, ◌+◌, ◌<◌, ◌≤◌, Bool, true, false, List, [], ◌++◌, length, map, Option, Some, None, Result, Ok, Err, IsOk, IfErr, IfOk, OnOk}
 use Rattle.std.specs.List.{All}
 use Rattle.tg_model.specs.declared.value.Value.{Value}
@@ -40,7 +40,7 @@ use Rattle.tg_threads.specs.Tasks.{AllBring, AreRaced, all_assigned}
 abbrev pub IsWhole : Start → List ℕ → List Line → List ℕ → Type 0
 IsWhole start bytes lines left = ReadsScript start.workers bytes lines None left × CanOpen start
 
--- why a store isn't opened: a limit is out of its range, or else memory was wanting, or a block for each worker
+-- why a store isn't opened: a limit is out of its range, or else memory ran out, or a block for each worker
 abbrev pub IsOpenFault : Start → ScriptFault → Type 0
 IsOpenFault start script.BadLimits = ¬ HasRoomForWorkers start
 IsOpenFault start script.OutOfMemory = HasRoomForWorkers start
@@ -54,7 +54,7 @@ IsNotRun start bytes f left =
     (lines : List Line)
     × ((IsOfKeeping f × ReadsScript start.workers bytes lines (Some f) left) ⊎ (ReadsScript start.workers bytes lines None left × IsOpenFault start f))
 
--- a fault behind the opening, before anything is written; the audit finds none
+-- a fault after the opening, before anything is written; the audit finds none
 abbrev pub IsBeforeWriting : RaceFault → Type 0
 IsBeforeWriting (fault.Script f) = ⊥
 IsBeforeWriting fault.OutOfMemory = Unit {0}
@@ -102,9 +102,9 @@ race_write_failures r = 0
 
 -- ---- the whole
 
--- What stands in the sink after a race over these bytes, where `before` stood in it, and what is left of them: a text that may be
+-- What is in the sink after a race over these bytes, where `before` stood in it, and what is left of them: a text that may be
 -- written for all of the script, or a front of one where the sink failed. For a script with a fault, for one whose store can't be
--- opened, and where anything else was wanting, nothing more. The audit never fails.
+-- opened, and where anything else was lacking, nothing more. The audit never fails.
 abbrev pub HasRaced : {T : Type 0} → RaceText → Start → List ℕ → List ℕ → Result T RaceFault → List ℕ → Option (List ℕ) → Type 0
 HasRaced race_text start bytes before (Ok done) left after =
     (lines : List Line) × (text : List ℕ) × IsWhole start bytes lines left × IsRaceOutput race_text start lines text × (after ≡ Some (before ++ text))
@@ -131,7 +131,7 @@ pub record RacesFrom {S K T : Type 0} (left : S → Option (List ℕ)) (asks fai
 
 -- ---- parts of it
 
--- The sink was finished at the end of a race, and has failed where that is told.
+-- The sink was finished at the end of a race, and has failed where that is reported.
 pub record FinishesRace {K T : Type 0} (failures : K → ℕ) (is_finished : K → Bool) (sink sink' : K) (result : Result T RaceFault) : Type 0 where
   pub write_failed : failures sink + race_write_failures result ≤ failures sink'
   pub unfailed : OnOk result (failures sink' ≡ failures sink)
@@ -165,7 +165,7 @@ pub record RunsRace {P : Type 0} (helpers blocks : ℕ) (opening : Origin) (stoc
       × (raced.store.handed ≡ 0))
   pub fault : IfErr result IsBeforeWriting
 
--- Each worker's session ran its lines, with this stock; what they came to stands in script order, and all of the sessions come back.
+-- Each worker's session ran its lines, with this stock; what they came to is in script order, and all of the sessions come back.
 pub record HasRanLines (start : SharedStart) (helpers : ℕ) (stock : List Value) (lines : List Line) (ran : RanLines SessionState) : Type 0 where
   pub finished : List (Finished SessionState)
   pub each : AllBring start helpers start.opening.plan.workers (all_assigned start.opening.plan.workers (boxed stock lines)) finished
@@ -178,7 +178,7 @@ pub record MayCloseRace (start : SharedStart) (sessions : List SessionState) : T
   pub none_ended : start.may_end ≡ false
   pub none_handed : handed_of sessions ≡ 0
 
--- Why it isn't closed: a session is missing, or the receipts aren't the entries of a store that may have been behind the lock.
+-- Why it isn't closed: a session is missing, or the receipts aren't the entries of a store that may have been in the lock.
 abbrev pub IsUnclosedRace : SharedStart → List SessionState → RaceFault → Type 0
 IsUnclosedRace start sessions why =
     (why ≡ fault.ReceiptMismatch)
@@ -205,7 +205,7 @@ OpensRace start bytes (Err f) left = ⊥
 abbrev pub HasHistory : StoreState → Type 0
 HasHistory s = IsPlan s.opening.plan × IsLegal (start_at s.opening) s.entries
 
--- The store's journal is such a history, and this text was written behind what stood there, or a front of it; or nothing.
+-- The store's journal is such a history, and this text was written after what stood there, or a front of it; or nothing.
 abbrev pub TellsRace : {T : Type 0} → StoreState → List ℕ → List ℕ → Result T RaceFault → Option (List ℕ) → Type 0
 TellsRace s text before (Ok done) after = HasHistory s × (after ≡ Some (before ++ text))
 TellsRace s text before (Err fault.WriteFailed) after =

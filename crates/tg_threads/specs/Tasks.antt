@@ -1,4 +1,4 @@
--- What a worker's lines come to on its thread, and how the parts of a race stand to what is told of it.
+-- What a worker's lines come to on its thread, and how the parts of a race stand to what is reported of it.
 use Rattle.std.specs.Prelude.{◌≡◌, ◌≢◌, ℕ, ◌+◌, ◌<◌, ◌≤◌, Bool, true, false, if◌then◌else◌, List, [], ◌∷◌, ◌++◌, length, map, Option, Some, None, Result, IfOk, IfErr}
 use Rattle.std.specs.List.{All, flat_map, range_with_len}
 use Rattle.std.specs.Vec.{vec_capacity, vec_len}
@@ -36,7 +36,7 @@ use Rattle.tg_threads.specs.Output.{Arena, Tells, IsCountTold, IsOfStore, IsUnco
 
 -- ---- what a line comes to
 
--- whose lines are run behind this one, which came to this
+-- whose lines are run after this one, which came to this
 abbrev pub served_past : (ℕ → Bool) → Line → Told → ℕ → Bool
 served_past served l (came.Entered at) = λ x. if is_retire_of x l then false else served x
 served_past served l (came.Collected kept) = served
@@ -59,7 +59,7 @@ is_spawn_line l = false
 abbrev pub may_make_subject : {P : Type 0} → Task P → Bool
 may_make_subject t = is_spawn_line t.line
 
--- the receipt that its session got of it, and what is told of it then
+-- the receipt that its session got of it, and what is reported of it then
 abbrev pub RunsOne : Arena → (ℕ → Bool) → Boxed → Told → List Receipt → Type 0
 RunsOne arena served b (came.Entered at) more = (e : Entry) × (more ≡ receipt_of at e ∷ []) × Tells arena served b.line b.value (Some e) (answer.Reply e.reply)
 RunsOne arena served b (came.Collected kept) more = (more ≡ []) × Tells arena served b.line b.value None (answer.Collected kept)
@@ -77,7 +77,7 @@ abbrev pub HasMadeVertex : SharedStart → (Value → Deed) → Option Value →
 HasMadeVertex shared making (Some value) t old new = HasAsked shared (making value) t old new
 HasMadeVertex shared making None t old new = (t ≡ came.Refused refusal.Stock) × KeepsReceipts old new
 
--- the heap was collected, or memory, room or threads were wanting
+-- the heap was collected, or memory, room or threads were lacking
 abbrev pub HasCollected : Arena → Kind → Told → Type 0
 HasCollected arena k (came.Entered at) = ⊥
 HasCollected arena k (came.Collected kept) = IsCountTold arena.shared arena.entries k kept
@@ -103,8 +103,8 @@ RunsTask start helpers served task old new result =
     (workers : ℕ) (before : ℕ → Bool) → before old.worker ≡ served → IsRunBy workers old.worker (boxed_of task) →
     IfOk result (λ told. HasRun (arena_of start helpers (entries_of new.seen)) before (boxed_of task) told old new)
 
--- What is told of a line of a session's worker is this; or else there is a fault, and the worker is no subject of a store that may have
--- been behind the lock with exactly the entries that the session has then seen.
+-- What is reported of a line of a session's worker is this; or else there is a fault, and the worker is no subject of a store that may
+-- have been in the lock with exactly the entries that the session has then seen.
 pub record IsToldOrGone (start : SharedStart) (old new : SessionState) (IsTold : Told → Type 0) (result : Result Told ThreadsFault) : Type 0 where
   pub asked : IfOk result IsTold
   pub gone : IfErr result (λ why. (why ≡ threads.NoSuchWorker) × AtSeen start new.seen (λ s. ¬ IsSubject (graph_of_store s) old.worker))
@@ -122,7 +122,7 @@ subject_spawned d r = []
 abbrev pub subjects_spawned : List Receipt → List ℕ
 subjects_spawned receipts = flat_map (λ r. subject_spawned r.entry.deed r.entry.reply) receipts
 
--- Where there is a fresh session for each subject that a worker's session made, by its receipts, and no other, so there is behind a
+-- Where there is a fresh session for each subject that a worker's session made, by its receipts, and no other, so there is after a
 -- line that came to something: none of them is lost. They went into the room that there was, and so many at most.
 pub record KeepsSpawned {A E : Type 0} (most : ℕ) (before after : SessionState) (sessions sessions' : Vec SessionState A) (result : Result Told E) : Type 0 where
   pub each : IfOk result (λ told. AreFresh (subjects_spawned before.receipts) sessions.items → AreFresh (subjects_spawned after.receipts) sessions'.items)
@@ -139,7 +139,7 @@ Brings arena workers x bs f =
 abbrev pub arena_seen : SharedStart → ℕ → Finished SessionState → Arena
 arena_seen shared helpers f = arena_of shared helpers (entries_of f.session.seen)
 
--- it ran these lines, or else there is a fault, but for want of a thread there is none
+-- it ran these lines, or else there is a fault, but for lack of a thread there is none
 pub record RunsTasks (shared : SharedStart) (helpers workers x : ℕ) (bs : List Boxed) (result : Result (Finished SessionState) ThreadsFault) : Type 0 where
   pub brought : IfOk result (λ finished. Brings (arena_seen shared helpers finished) workers x bs finished)
   pub fault : IfErr result (λ fault. fault ≢ threads.NoThread)
@@ -173,7 +173,7 @@ pub record AreRaced (arena : Arena) (workers : ℕ) (bs : List Boxed) (entries :
   pub each : HasEach entries made
   pub there : All (IsThere entries) ts
 
--- the journal is whole and was audited, and what the lines came to is told of entries that it has
+-- the journal is whole and was audited, and what the lines came to is reported of entries that it has
 pub record MayTell (start : ℕ) (entries : List Entry) (ts : List Told) (audited : ℕ) : Type 0 where
   pub whole : start ≡ 0
   pub there : All (IsThere entries) ts

@@ -20,7 +20,7 @@ pub enum RaceFault {
     /// A worker's thread couldn't be started.
     #[error("no thread")]
     NoThread,
-    /// The sessions' receipts aren't the journal's growth; or a session found no such worker, though no retire of its
+    /// The sessions' receipts aren't the journal's growth. Or a session found no such worker, although no retire of its
     /// worker was entered.
     #[error("receipt mismatch")]
     ReceiptMismatch,

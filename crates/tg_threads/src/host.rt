@@ -5,8 +5,8 @@ use tg_payload::Payload;
 use tg_script::Helpers;
 use tg_shared::{Round, SharedStore};
 
-/// What a race asks of the machine: the runtime that starts its threads, the allocator, and the turnstile that each
-/// thread passes.
+/// What a race asks of the machine. It is the runtime that starts its threads, the allocator, and the turnstile that
+/// each thread passes.
 #[derive_where(Clone, Copy)]
 pub struct RaceHost<'a, G, R> {
     pub rt: &'a R,
@@ -14,7 +14,7 @@ pub struct RaceHost<'a, G, R> {
     pub turnstile: &'a G,
 }
 
-/// What each worker's thread is given beside its lines: the host, the store, and how many helpers a collection has.
+/// What each worker's thread gets beside its lines. It is the host, the store, and how many helpers a collection has.
 #[derive_where(Clone, Copy)]
 pub struct RaceContext<'a, L: Round, P: Payload, G, R> {
     pub host: &'a RaceHost<'a, G, R>,

@@ -1,4 +1,4 @@
-//! Workers' lines side by side: each worker has a thread of its own, with its session of a shared store.
+//! Workers' lines side by side. Each worker has a thread of its own, with its session of a shared store.
 //!
 //! [`run_race`] runs a whole script so. It reads all lines and opens the store, and [`share_out`] gives each session
 //! its lines. [`run_threads`] runs them on threads, and brings the sessions back with the result of each line. A result

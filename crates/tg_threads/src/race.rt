@@ -39,9 +39,9 @@ use tg_text::{Line, Sink, Source};
 /// [`Replies`](crate::Replies) writes the reply to each line in script order, and the line with the number of entries.
 /// [`Entries`](crate::Entries) writes the text of the history.
 ///
-/// The order in which lines of different workers are run isn't specified. A line is refused for lack of room in the
-/// heap only if some store behind the lock, with the first of the race's own entries, lacked that room. The number that
-/// a full collection returns is of such a store too.
+/// The order in which lines of different workers are run isn't specified. Suppose that a line is refused for lack of
+/// room in the heap. Then some store in the lock, with the first of the race's own entries, lacked that room. The
+/// number that a full collection returns is of such a store too.
 ///
 /// After a fault nothing was written, unless it is `WriteFailed`, which leaves a front of the text. `NoThread` is
 /// returned if a thread can't be started. The threads that were started have ended by then. `ReceiptMismatch` is also
@@ -83,7 +83,7 @@ pub fn run_race<
     finish(sink, outcome)
 }
 
-// Finishes the sink. A fault that came before stands.
+// Finishes the sink. A fault that came before stays.
 fn finish<K: Sink>(sink: &mut K, outcome: Result<(), RaceFault>) -> Result<(), RaceFault>
     ensures { HasFinished K.taken K.failures K.finished sink.old sink.new outcome result }
 {
@@ -168,7 +168,7 @@ impl<P: Payload> Raced<P> {
     ghost use Rattle.tg_threads.specs.Race.{IsOfTelling, TellsRace, race_read_failures, race_write_failures};
     ghost use Rattle.tg_threads.specs.Telling.{IsThere, text_of_told};
 
-    // Audits the journal, and writes what is told of the race.
+    // Audits the journal, and writes the text of the race.
     fn tell<T: RaceTelling, K: Sink>(&self, alloc: Global, sink: &mut K) -> Result<(), RaceFault>
         requires there { All (IsThere self.now.store.entries) self.now.told.items }
         requires none_handed { self.now.store.handed ≡ 0 }

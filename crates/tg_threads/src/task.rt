@@ -8,7 +8,7 @@ use tg_text::{Line, Refusal};
 /// A line, with the payload for the vertex that it makes.
 #[derive(Drop)]
 pub struct Task<P: Payload> {
-    /// One that is no edge line, of the session's worker; or a collection, where the session is worker 0's.
+    /// A line of the session's worker that is no edge line. Or a collection, if the session is worker 0's.
     pub line: Line,
     /// For the vertex, where the line makes one and there is a payload for it.
     pub draft: Option<Draft<P>>,
@@ -25,7 +25,7 @@ pub enum Told {
     Refused(Refusal),
 }
 
-/// The worker whose session runs the line: its own worker, or worker 0 for a collection.
+/// The worker whose session runs the line. It is the line's own worker, or worker 0 for a collection.
 pub fn runner(workers: u64, line: &Line) -> Option<u64>
     ensures { result ≡ runner_of workers line.now }
 {

@@ -1,4 +1,4 @@
-//! What is written of a race in the end: the replies to its lines, or its entries.
+//! What is written of a race in the end. It is the replies to its lines, or its entries.
 ghost use Rattle.std.specs.Prelude.{◌≡◌, ◌++◌};
 ghost use Rattle.std.specs.List.{All};
 ghost use Rattle.tg_text.specs.Sinks.{Writes};

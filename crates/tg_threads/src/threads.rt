@@ -58,7 +58,7 @@ impl<T: Drop> From<AllocFailed<T>> for ThreadsFault {
     }
 }
 
-/// What a worker's thread has to bring back: its session, which has run these lines, with so many helpers of a
+/// What a worker's thread has to bring back. It is its session, which has run these lines, with so many helpers of a
 /// collection.
 #[derive(Drop)]
 pub(crate) struct Assigned<P: Payload> {

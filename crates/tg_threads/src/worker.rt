@@ -120,7 +120,7 @@ fn spawn_lines<P: Payload>(tasks: &[Task<P>]) -> usize
     count
 }
 
-// Whether this worker's lines are run behind the line, which came to this.
+// Whether this worker's lines are run after the line, which came to this.
 fn is_served_past(worker: u64, served: bool, line: &Line, told: Told) -> bool
     ensures { (before : ℕ → Bool) → before worker ≡ served → result ≡ served_past before line.now told worker }
 {
@@ -219,7 +219,7 @@ fn create<L: Round, P: Payload, G, R: Wait>(
     }
 }
 
-// As a create; and the new subject's session is kept with the others, for which there is room.
+// As a create. The new subject's session is kept with the others, for which there is room.
 fn spawn<L: Round, P: Payload, G, R: Wait>(
     context: &RaceContext<L, P, G, R>,
     session: &mut Session<L>,
@@ -247,8 +247,8 @@ fn spawn<L: Round, P: Payload, G, R: Wait>(
     }
 }
 
-// What a create or a spawn is told that made no vertex, as in a script; where it has an entry, that tells it. That
-// there is no such worker is a fault.
+// The reply to a create or a spawn that made no vertex, as in a script. If the refusal has an entry, the entry has the
+// reply. That there is no such worker is a fault.
 fn not_made<L: Round>(session: &Session<L>, why: CreateFault) -> Result<Told, ThreadsFault>
     requires { (reply : ReplyOf) → create_answer why ≡ Answer.Reply reply → 0 < length session.now.receipts }
     ensures refused { (refusal : RefusalOf) → create_answer why ≡ Answer.Refused refusal → IfOk result (λ told. told ≡ Told.Refused refusal) }
@@ -266,7 +266,7 @@ fn not_made<L: Round>(session: &Session<L>, why: CreateFault) -> Result<Told, Th
     }
 }
 
-// How many vertices the heap then has is told of a full collection alone.
+// Only a full collection reports how many vertices the heap then has.
 fn collect<L: Round, P: Payload, G, R: Threads + Wait + Sync>(
     context: &RaceContext<L, P, G, R>,
     session: &mut Session<L>,
@@ -286,9 +286,9 @@ fn collect<L: Round, P: Payload, G, R: Threads + Wait + Sync>(
 /// context says, and each helper passes the gate. A single helper is that thread, which collects alone and passes no
 /// gate. The answer is the number of vertices that the heap then has.
 ///
-/// `Heap` is the refusal of a store with exactly the entries that the session has then seen, if each of several helpers
-/// may leave a block open. `Threads` is returned only with several helpers, if a thread couldn't be started. The only
-/// other refusal is `Memory`.
+/// `Heap` is the refusal of a store with exactly the entries that the session has then seen. In such a store each of
+/// several helpers may leave a block open. `Threads` is returned only with several helpers, if a thread couldn't be
+/// started. The only other refusal is `Memory`.
 pub fn collect_by<L: Round, P: Payload, G, R: Threads + Wait + Sync, H: Gate>(
     context: &RaceContext<L, P, G, R>,
     session: &mut Session<L>,

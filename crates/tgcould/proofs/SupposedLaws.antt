@@ -28,7 +28,7 @@ zip_more {X} {Y} R xs ys zs i d y inside grown before here =
     subst (λ (ts : List X). AllZip R ts zs) (sym (take_more xs i d inside))
     (subst (AllZip R (take i xs ++ get_or xs i d ∷ [])) (sym grown) (both_more R (take i xs) ys (get_or xs i d) y before here))
 
--- behind the last one all are found
+-- after the last one all are found
 pub zip_whole : {X Y : Type 0} (R : X → Y → Type 0) (xs : List X) (ys : List Y) (i : ℕ) → length xs ≤ i → AllZip R (take i xs) ys → AllZip R xs ys
 zip_whole {X} R xs ys i end all = subst (λ (ts : List X). AllZip R ts ys) (take_all i xs end) all
 
@@ -50,7 +50,7 @@ label_more : (t : Bool) (own others rights : RightSet) → cond t (union (union 
 label_more true own others rights = union_assoc own others rights
 label_more false own others rights = refl
 
--- one edge more behind the others
+-- one edge more after the others
 with_more : (g : ProtectionGraph) (es : List Edge) (e : Edge) → with_edge (with_edges g es) e.from e.to e.label ≡ with_edges g (es ++ e ∷ [])
 with_more g es e =
     let labels : (a b : ℕ) → cond ((a == e.from) && (b == e.to)) (union (union (g.label a b) (label_in es a b)) e.label) (union (g.label a b) (label_in es a b)) ≡ union (g.label a b) (label_in (es ++ e ∷ []) a b) =

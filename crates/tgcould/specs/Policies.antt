@@ -40,7 +40,7 @@ AreWords holder right over (Hold x r y) = IsVertex holder x × (right ≡ letter
 AreWords holder right over (Who r y) = (holder ≡ codes "*") × (right ≡ letter_of r ∷ []) × IsVertex over y
 AreWords holder right over (What x) = IsVertex holder x × (right ≡ codes "*") × (over ≡ codes "*")
 
--- behind the holder and a space the text has the two other words of the question, with a space between them
+-- after the holder and a space the text has the two other words of the question, with a space between them
 pub record IsBehind (holder rest : List ℕ) (question : Query) : Type 0 where
   pub right : List ℕ
   pub over : List ℕ

@@ -12,7 +12,7 @@ use Rattle.tgcould.specs.declared.options.TheConstants.{SILENT, AS_IF}
 use Rattle.tgcould.specs.declared.supposed.Supposed.{Supposed}
 use Rattle.tgcould.specs.Policies.{WritesWord, texts_of}
 
--- behind `edge ` the text is the line of this edge, which joins two different vertices
+-- after `edge ` the text is the line of this edge, which joins two different vertices
 pub record WritesEdge (text : List ℕ) (edge : Edge) : Type 0 where
   pub is : codes "edge " ++ text ≡ line_text (line.Edge edge)
   pub differ : edge.from ≢ edge.to

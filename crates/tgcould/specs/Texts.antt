@@ -1,4 +1,4 @@
--- The texts of answers: a word, and behind `could` the lines of a script that do it.
+-- The texts of answers: a word, and after `could` the lines of a script that do it.
 use Rattle.std.specs.Prelude.{ℕ, ◌==◌, List, [], ◌∷◌, ◌++◌, codes, decimal, length, if◌then◌else◌}
 use Rattle.std.specs.List.{flat_map}
 use Rattle.tg_could.specs.declared.answer.Answer.{Answer}
@@ -11,11 +11,11 @@ use Rattle.tg_text.specs.Grammar.{line_text}
 abbrev pub turn_text : Turn → List ℕ
 turn_text turn = line_text (deed_line turn.0 turn.1) ++ 10 ∷ []
 
--- the words behind the number of names that are wanting
+-- the words after the number of names that are lacking
 abbrev pub more_text : ℕ → List ℕ
 more_text names = if names == 1 then codes " name more\n" else codes " names more\n"
 
--- how many names are wanting
+-- how many names are lacking
 abbrev pub wanting_text : ℕ → List ℕ
 wanting_text names = codes "could, with " ++ (decimal names ++ more_text names)
 

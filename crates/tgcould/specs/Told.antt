@@ -1,4 +1,4 @@
--- What is told of a question.
+-- What is reported of a question.
 use Rattle.std.specs.Prelude.{◌≡◌, ◌⊎◌, ℕ, true, false, ◌≤◌, List, length}
 use Rattle.std.specs.List.{Contains}
 use Rattle.tg_rights.specs.RightSet.{RightSet, has, is_none_held}
@@ -27,7 +27,7 @@ named_in p New = p.made
 abbrev pub AnswersShown : Shown → List ℕ → ℕ → Right → ℕ → Answer → Type 0
 AnswersShown p silent x right y answer = (g : ProtectionGraph) → IsPictureOf p g → IsAnswer silent g x right y answer
 
--- where memory wasn't wanting, the text of an answer to the question stands behind what was there
+-- where memory didn't run out, the text of an answer to the question is after what was there
 abbrev pub TellsHold : Shown → List ℕ → ℕ → Right → ℕ → PlainText → PlainText → Type 0
 TellsHold p silent x right y old new =
     new.is_short ≡ false → (answer : Answer) × AnswersShown p silent x right y answer × Appends old (answer_text answer) new
@@ -51,7 +51,7 @@ IsShownHolder p holders x = Contains holders.names.items x ⊎ ((holders.later �
 abbrev pub ListsWho : Shown → List ℕ → Right → ℕ → Holders → Type 0
 ListsWho p silent right y holders = (x : ℕ) → ¬ IsShownHolder p holders x → IsNever p silent x right y
 
--- the right over y stands in a list of vertices and rights
+-- the right over y is in a list of vertices and rights
 pub record IsHeldOverBy (over : List (ℕ × RightSet)) (right : Right) (y : ℕ) : Type 0 where
   pub rights : RightSet
   pub there : Contains over (y, rights)

@@ -18,7 +18,7 @@ pub struct Answers {
     alloc: Global,
     text: PlainText,
     notes: Remarks,
-    // Whether each stands behind its question, and an empty line behind it.
+    // Whether each answer follows its question, with an empty line after it.
     are_headed: bool,
 }
 

@@ -1,4 +1,4 @@
-//! What is asked of a picture, and told.
+//! Questions about a picture, and their answers.
 ghost use Rattle.std.specs.Prelude.{◌≡◌, ℕ, IsTrue, true, false};
 ghost use Rattle.tg_rights.specs.declared.Right.{Right as TheRight};
 ghost use Rattle.tg_plain.specs.Grown.{Appends};
@@ -14,14 +14,14 @@ use tg_model::Deed;
 use tg_plain::PlainText;
 use tg_rights::{Right, Rights};
 
-/// What was told of a question.
+/// The outcome of a question.
 #[derive(Clone, Copy)]
 pub struct Said {
     /// Whether what is asked never comes about.
     pub is_never: bool,
-    /// Whether neither this nor the other was shown.
+    /// Whether the answer is open.
     pub is_open: bool,
-    /// How many vertices the lines make that were told.
+    /// How many vertices the lines of the answer make.
     pub made: u64,
 }
 
@@ -96,7 +96,7 @@ fn makings(turns: &[(u64, Deed)]) -> u64 {
     made
 }
 
-// What was told by a list.
+// The outcome of a list.
 fn listed(is_never: bool) -> Said
     ensures { result.is_never ≡ is_never }
 {
@@ -142,7 +142,7 @@ fn add_name(text: &mut PlainText, first: usize, name: u64) {
     text.add_number(name);
 }
 
-// Appends those who are made later.
+// Appends the vertices that are made later.
 fn add_new(text: &mut PlainText, first: usize) {
     add_space(text, first);
     text.add("new");

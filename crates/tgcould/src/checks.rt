@@ -1,4 +1,4 @@
-//! Whether the words of the command line are what their options want. The first that isn't is said on standard error.
+//! Whether the words of the command line fit their options. The first that doesn't is named on standard error.
 ghost use Rattle.std.specs.Prelude.{IsTrue};
 ghost use Rattle.std.specs.List.{All};
 ghost use Rattle.tgcould.specs.Supposed.{JoinsMade};
@@ -47,7 +47,7 @@ pub fn are_made<R: Eprint>(rt: &R, made: u64, supposed: &Supposed) -> bool
         && are_ends_made(rt, made, supposed.edges.as_slice())
 }
 
-// Whether the script made all of these.
+// Whether the script made all vertices with these names.
 fn are_names_made<R: Eprint>(rt: &R, made: u64, names: &[u64]) -> bool {
     for name in names {
         if *name >= made {

@@ -9,11 +9,11 @@ use std::alloc::Global;
 /// What standard error says of answers, and the exit status.
 #[derive(Drop)]
 pub struct Remarks {
-    /// The lines, where memory was never wanting.
+    /// The lines, if memory never ran out.
     pub text: String,
-    /// Whether memory was wanting for a part of them.
+    /// Whether memory ran out for a part of the lines.
     pub is_short: bool,
-    /// The exit status: 1 where what must never come about could.
+    /// The exit status. It is 1 if something could come about that must never come about.
     pub status: u8,
     // How many boxes are left in the stock, or `None` if they have no end.
     boxes: Option<u64>,
@@ -21,7 +21,7 @@ pub struct Remarks {
 }
 
 impl Remarks {
-    /// No note. So many boxes are left in the stock; `None` if they have no end.
+    /// No note. So many boxes are left in the stock. It is `None` if the boxes have no end.
     pub fn new(alloc: Global, boxes: Option<u64>) -> Remarks
         ensures { result.status ≡ 0 }
     {
@@ -33,8 +33,8 @@ impl Remarks {
         }
     }
 
-    /// Adds how many boxes the lines of an answer want beside those that are left, and whether what must never come
-    /// about could.
+    /// Adds how many boxes the lines of an answer need beyond the boxes that are left. It also adds whether something
+    /// could come about that must never come about.
     pub fn add(&mut self, question: &str, told: Said, must_never: bool)
         ensures { self.new.status ≡ status_after self.old.status must_never told.is_never }
     {
@@ -50,7 +50,7 @@ impl Remarks {
         }
     }
 
-    // Adds that an answer's lines want so many boxes more.
+    // Adds that an answer's lines need so many boxes more.
     fn add_stock(&mut self, question: &str, more: u64)
         ensures { self.new.status ≡ self.old.status }
     {

@@ -22,7 +22,8 @@ pub const NEVER: &str = "never";
 /// Whether policies may pass though lines of the script were denied or refused.
 pub const ALLOW_DENIED: &str = "allow-denied";
 
-// The options: what a script runs on, who is trusted, edges that aren't there yet, what is asked, and what is allowed.
+// The options. They say what a script runs on, who is trusted, which edges are supposed, what is asked, and what is
+// allowed.
 const CHOICES: &[Choice] = &[
     WORKERS,
     VERTICES,

@@ -9,7 +9,7 @@ use tg_text::reason_of_number;
 /// A vertex of a question.
 #[derive(Clone, Copy)]
 pub enum VertexWord {
-    /// The one of this name, whether it was made or not.
+    /// The vertex of this name, whether it was made or not.
     Named(u64),
     /// The next that is made.
     New,
@@ -41,7 +41,7 @@ const NO_RIGHT: &str = "one right is wanted, a letter out of r w t g a l u v";
 
 const BOTH_NEW: &str = "'new' is one vertex";
 
-/// The question that the text is, or why it is none: one sentence without its dot.
+/// The question that the text is. If it is no question, the reason is one sentence without its dot.
 pub fn read_question(text: &str) -> Result<Query, &'static str>
     ensures { IfOk result (IsQuestion text.now) }
 {

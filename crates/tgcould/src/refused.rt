@@ -1,4 +1,4 @@
-//! Lines of the script that were denied or refused: what standard error says of them.
+//! The lines of the script that were denied or refused, and their messages on standard error.
 
 use std::alloc::{AllocError, Global};
 use std::str;
@@ -100,7 +100,7 @@ fn add_cause(text: &mut PlainText, cause: Cause) {
     }
 }
 
-// Prints the text on standard error. `OutOfMemory` where memory was wanting for it.
+// Prints the text on standard error. `OutOfMemory` is returned if memory ran out for it.
 fn print<R: Eprint>(rt: &R, text: &PlainText) -> Result<(), PlainFault> {
     if text.is_short {
         return Err(PlainFault::OutOfMemory(AllocError));

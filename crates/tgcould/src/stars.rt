@@ -1,4 +1,5 @@
-//! The answers to questions with a star: who could come to hold a right over a vertex, and what somebody could hold.
+//! The answers to questions with a star. They list who could come to hold a right over a vertex, or what a vertex could
+//! hold.
 ghost use Rattle.std.specs.Prelude.{◌≡◌, ℕ, IfOk, IsTrue, OnOk, true};
 ghost use Rattle.std.specs.List.{Contains};
 ghost use Rattle.tg_rights.specs.RightSet.{has};
@@ -15,9 +16,9 @@ use tg_rights::{Right, Rights};
 /// Who could come to hold a right over a vertex.
 #[derive(Drop)]
 pub struct Holders {
-    /// Those who were made, by their names.
+    /// The vertices that were made, by their names.
     pub names: Vec<u64>,
-    /// Whether those who are made later could, too.
+    /// Whether a vertex that is made later could, too.
     pub later: bool,
 }
 
@@ -26,11 +27,11 @@ pub struct Holders {
 pub struct HeldRights {
     /// The vertices that were made, by their names, with the rights over each.
     pub over: Vec<(u64, Rights)>,
-    /// The rights over those that are made later.
+    /// The rights over vertices that are made later.
     pub later: Rights,
 }
 
-/// Who could come to hold the right over y: each name that isn't listed never does, whether it was made or not.
+/// Who could come to hold the right over y. A name that isn't listed never holds it, whether it was made or not.
 pub fn holders_of(alloc: Global, scene: &Scene, right: Right, y: u64) -> Result<Holders, AllocError>
     ensures { IfOk result (ListsWho scene.now.picture.now scene.now.silent.now right y) }
 {
@@ -38,7 +39,7 @@ pub fn holders_of(alloc: Global, scene: &Scene, right: Right, y: u64) -> Result<
     list_holders(alloc, scene, &who, right, y)
 }
 
-// The names that one search tells.
+// The names that one search finds.
 fn list_holders(
     alloc: Global,
     scene: &Scene,
@@ -68,7 +69,7 @@ fn add_unless_never(names: &mut Vec<u64>, who: &Who, x: u64) -> Result<(), Alloc
     Ok(())
 }
 
-// Whether it is told that something never comes about.
+// Whether the answer is that it never comes about.
 fn is_never(chance: Chance) -> bool
     ensures { IsTrue result → chance ≡ Never }
 {
@@ -78,7 +79,7 @@ fn is_never(chance: Chance) -> bool
     }
 }
 
-/// What x could come to hold: a right over a name that isn't listed it never holds, whether the name was made or not.
+/// What x could come to hold. Over a name that isn't listed x never holds a right, whether the name was made or not.
 pub fn held_by(alloc: Global, scene: &Scene, x: u64) -> Result<HeldRights, AllocError>
     ensures { IfOk result (ListsWhat scene.now.picture.now scene.now.silent.now x) }
 {
@@ -86,7 +87,7 @@ pub fn held_by(alloc: Global, scene: &Scene, x: u64) -> Result<HeldRights, Alloc
     list_held(alloc, scene, &what, x)
 }
 
-// The rights that one search tells.
+// The rights that one search finds.
 fn list_held(alloc: Global, scene: &Scene, what: &What, x: u64) -> Result<HeldRights, AllocError>
     requires { TellsWhat scene.now.silent.now scene.now.picture.now x what.now }
     ensures { IfOk result (ListsWhat scene.now.picture.now scene.now.silent.now x) }

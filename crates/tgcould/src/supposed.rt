@@ -1,4 +1,4 @@
-//! What the options suppose: who takes no turns, and edges that are asked about as if they were there.
+//! What the options suppose. Some vertices take no turns, and some edges are asked about as if they were there.
 ghost use Rattle.std.specs.Prelude.{◌≡◌, ◌≢◌, ◌++◌, codes, IfOk, IfSome};
 ghost use Rattle.std.specs.List.{AllZip};
 ghost use Rattle.tg_text.specs.declared.line.Line.{Line as TheLine};
@@ -47,7 +47,7 @@ impl Supposed {
     }
 }
 
-// Who takes no turns: the names that all values of the option write.
+// The vertices that take no turns. All values of the option name them.
 fn silent_of<R: Eprint>(
     rt: &R,
     alloc: Global,
@@ -110,7 +110,8 @@ fn read_edges<R: Eprint>(
     Ok(Some(edges))
 }
 
-// The edge that the text writes, or why it writes none: one sentence without its dot. Fails only when out of memory.
+// The edge that the text writes. If it writes none, the reason is one sentence without its dot. Fails only when out of
+// memory.
 fn read_edge(alloc: Global, text: &str) -> Result<Result<Edge, &'static str>, AllocError>
     ensures { IfOk result (λ read. IfOk read (WritesEdge text.now)) }
 {

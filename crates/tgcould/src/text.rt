@@ -10,7 +10,7 @@ use tg_model::Deed;
 use tg_plain::PlainText;
 use tg_text::{Line, line_bytes, line_of_deed};
 
-/// Appends the text of an answer: its word, and behind `could` the lines that do it.
+/// Appends the text of an answer. It is a word, and after `could` the lines of the turns.
 pub fn add_answer(text: &mut PlainText, answer: &Answer)
     ensures { Appends text.old (answer_text answer.now) text.new }
 {
@@ -22,7 +22,7 @@ pub fn add_answer(text: &mut PlainText, answer: &Answer)
     }
 }
 
-// Appends turns that lead there, none where it is so already.
+// Appends the turns of an answer. There are none if x holds the right already.
 fn add_could(text: &mut PlainText, turns: &[(u64, Deed)])
     ensures { Appends text.old (could_text turns.now) text.new }
 {
@@ -34,7 +34,7 @@ fn add_could(text: &mut PlainText, turns: &[(u64, Deed)])
     }
 }
 
-// Appends turns that lead there where so many more vertices may be made.
+// Appends turns that need so many more names.
 fn add_wanting(text: &mut PlainText, turns: &[(u64, Deed)], names: u64)
     ensures { Appends text.old (wanting_text names ++ flat_map turn_text turns.now) text.new }
 {
@@ -42,7 +42,7 @@ fn add_wanting(text: &mut PlainText, turns: &[(u64, Deed)], names: u64)
     add_turns(text, turns);
 }
 
-// Appends that so many names are wanting.
+// Appends how many more names are needed.
 fn add_names_more(text: &mut PlainText, names: u64)
     ensures { Appends text.old (wanting_text names) text.new }
 {
@@ -78,7 +78,7 @@ fn add_line(text: &mut PlainText, line: Line)
     }
 }
 
-// The words behind the number of names.
+// The words after the number of names.
 fn names_more(names: u64) -> &'static str
     ensures { result.now ≡ more_text names }
 {

@@ -43,7 +43,7 @@ pub fn status_of<R: AllocGlobal + Print + Eprint, B: Read + Drop>(
     Ok(last_status(fails, status))
 }
 
-// The exit status after this one of the answers, by whether lines of the script fail the policies.
+// The exit status. It is that of the answers, unless lines of the script fail the policies.
 fn last_status(fails: bool, status: u8) -> u8
     requires { status < 3 }
     ensures zero { result ≡ 0 → status ≡ 0 }

@@ -5,8 +5,8 @@ use crate::run::ScriptRun;
 use tg_plain::{PlainFault, PlainRun, PlainText, Script};
 use tg_text::Line;
 
-/// Writes the graph that a script leaves as a digraph: its vertices by rising name, then its edges. What a collection
-/// would take is there too. A fault in the script leaves nothing to be drawn.
+/// Writes the graph that a script leaves as a digraph, with its vertices by rising name, and then its edges. Vertices
+/// that a collection would free are there too. If the script has a fault, nothing is drawn.
 pub fn write_last(text: &mut PlainText, script: &Script) -> Result<(), PlainFault> {
     script.whole()?;
     let mut run = ScriptRun::new(script.alloc, PlainRun::open(script)?);
@@ -41,7 +41,7 @@ fn write_vertices(text: &mut PlainText, run: &ScriptRun) {
     }
 }
 
-// A vertex: a box or a circle.
+// Writes a vertex, which is a box or a circle.
 fn write_vertex(text: &mut PlainText, run: &ScriptRun, name: u64) {
     text.add("    ");
     text.add_number(name);
@@ -49,7 +49,7 @@ fn write_vertex(text: &mut PlainText, run: &ScriptRun, name: u64) {
     text.add(colour_of(run, name));
 }
 
-// The shape of a vertex. The border of one who retired is dashed.
+// The shape of a vertex. A subject that retired has a dashed border.
 fn shape_of(run: &ScriptRun, name: u64) -> &'static str {
     if run.is_subject(name) {
         " [shape=box "

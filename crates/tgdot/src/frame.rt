@@ -27,8 +27,8 @@ const LEAST_IN_CIRCLE: usize = 6;
 
 const MOST_IN_CIRCLE: usize = 12;
 
-/// The vertices and edges that ever stand at a step, and how many columns the texts of each take, so that every picture
-/// has the same places. It remembers whether memory was wanting for a part of it.
+/// The vertices and edges of all steps, with the number of columns that the texts of each take. Therefore every picture
+/// has the same places. The frame remembers whether memory ran out for a part of it.
 #[derive(Drop)]
 pub struct Frame {
     /// The room of each vertex.
@@ -43,7 +43,7 @@ pub struct Frame {
     most: u64,
     // A text whose columns are counted.
     scratch: PlainText,
-    // Whether memory was wanting.
+    // Whether memory ran out.
     is_short: bool,
 }
 
@@ -66,7 +66,7 @@ impl Frame {
         self.vertices.len() as u64 > self.most
     }
 
-    /// Whether memory was wanting.
+    /// Whether memory ran out.
     pub fn is_short(&self) -> bool {
         self.is_short || self.scratch.is_short
     }

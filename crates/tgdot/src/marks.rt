@@ -1,26 +1,26 @@
-//! What stands out at a step.
+//! The parts of a picture that are highlighted at a step.
 
 use crate::run::changed_by;
 use tg_model::{Arguments, Cause, Command, Reply};
 use tg_rights::Rights;
 use tg_text::{Answer, Line};
 
-/// What stands out at a step, and why.
+/// The parts of a picture that are highlighted at a step, and why.
 #[derive(Clone, Copy)]
 pub struct Marks {
-    /// The vertices that the line names: the one that acts, and those behind the word.
+    /// The vertices that the line names. They are the vertex that acts, and the vertices after the word.
     pub named: [Option<u64>; 3],
     /// The ends of the edge that the line added to or took from.
     pub changed: Option<(u64, u64)>,
-    /// Where the line was denied for rights, these, and the ends of the edge that lacks them.
+    /// The missing rights, and the ends of the edge that lacks them, if the line was denied for rights.
     pub missing: Option<((u64, u64), Rights)>,
-    /// Where it was denied since it names a vertex twice, this one.
+    /// The vertex that the line names twice, if it was denied for this reason.
     pub twice: Option<u64>,
-    /// Where it was denied since a vertex stores no log, this one.
+    /// The vertex that stores no log, if the line was denied for this reason.
     pub no_log: Option<u64>,
 }
 
-/// Nothing stands out.
+/// Nothing is highlighted.
 pub const NO_MARKS: Marks = Marks {
     named: [None, None, None],
     changed: None,
@@ -30,7 +30,7 @@ pub const NO_MARKS: Marks = Marks {
 };
 
 impl Marks {
-    /// What stands out after a line that was answered so.
+    /// The marks after a line that was answered so.
     pub fn of(line: &Line, answer: &Answer) -> Marks {
         let mut marks = NO_MARKS;
         marks.named = named(line);
@@ -96,7 +96,7 @@ fn changed(line: &Line, reply: &Reply) -> Option<(u64, u64)> {
     }
 }
 
-// The first of the vertices that stands there twice.
+// The first vertex that is in the list twice.
 fn twice_in(named: [Option<u64>; 3]) -> Option<u64> {
     let [first, second, third] = named;
     if first == second || first == third {
@@ -108,7 +108,7 @@ fn twice_in(named: [Option<u64>; 3]) -> Option<u64> {
     }
 }
 
-// The vertices that a line names: the one that acts, and those behind the word.
+// The vertices that a line names. They are the vertex that acts, and the vertices after the word.
 fn named(line: &Line) -> [Option<u64>; 3] {
     match *line {
         Line::Plain { worker, command } => named_by(worker, command),

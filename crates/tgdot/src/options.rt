@@ -40,7 +40,7 @@ const FROM: &str =
 
 const TO: &str = "Sets the last line that --steps shows [default: the last line of the script]";
 
-// The options: two numbers, a text, a flag, and with the flag the numbers of two lines.
+// The options. They are two numbers, a text and a flag. The numbers of two lines go with the flag.
 const CHOICES: &[Choice] = &[
     WORKERS,
     VERTICES,
@@ -99,7 +99,7 @@ pub struct LineRange {
 }
 
 impl LineRange {
-    /// Whether the line is one of these.
+    /// Whether the line is in the range.
     pub fn contains(self, line: u64) -> bool {
         self.from <= line && line <= self.to
     }

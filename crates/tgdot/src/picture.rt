@@ -4,8 +4,8 @@ use crate::frame::{Extent, Frame};
 use crate::shot::{EdgeView, Shot};
 use tg_plain::PlainText;
 
-// The width of a letter, the height of a box with two lines and with a note below them, and what stands round a text,
-// in hundredths of an inch.
+// Sizes in hundredths of an inch. They are the width of a letter, the height of a box with two lines and with a note
+// below them, and the margins around a text.
 const LETTER: u64 = 12;
 
 const HEIGHT: u64 = 60;
@@ -46,8 +46,8 @@ fn write_padded(text: &mut PlainText, line: &[u8], columns: usize) {
     text.add("\\l");
 }
 
-// What holds of all vertices and of all edges. The letters of all texts are equally wide, so that a text's columns tell
-// its width. Among many edges a line leads from each label to its own.
+// Writes what holds of all vertices and of all edges. The letters of all texts are equally wide, so the columns of a
+// text give its width. If there are many edges, a line leads from each label to its edge.
 fn write_kinds(text: &mut PlainText, are_many: bool) {
     text.add("    node [fontname=Courier fixedsize=true]\n    edge [fontname=Courier");
     text.add(if are_many { " decorate=true]\n" } else { "]\n" });
@@ -81,8 +81,8 @@ fn write_vertex(text: &mut PlainText, shot: &Shot, name: u64) {
     }
 }
 
-// The shape and the size of a vertex, which are its own for all steps. All circles have room for so many columns; one
-// with a longer text is an ellipse of their height.
+// Writes the shape and the size of a vertex, which are the same at all steps. All circles have room for so many
+// columns. A vertex with a longer text is an ellipse of the same height.
 fn write_room(text: &mut PlainText, room: Extent, circle: usize) {
     if room.ever_subject {
         let height = if room.is_noted { NOTED_HEIGHT } else { HEIGHT };
@@ -107,7 +107,7 @@ fn width_of(columns: usize, margin: u64) -> u64 {
         .saturating_add(margin)
 }
 
-// A width and a height, as far as into the label behind them.
+// Writes a width and a height, and the beginning of the label after them.
 fn write_sizes(text: &mut PlainText, width: u64, height: u64) {
     write_inches(text, width);
     text.add(" height=");

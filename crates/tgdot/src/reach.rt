@@ -4,14 +4,14 @@ use std::alloc::Global;
 use std::collections::BTreeSet;
 use tg_model::Graph;
 
-/// The vertices that a subject reaches along edges. It remembers whether memory was wanting for one of them.
+/// The vertices that a subject reaches along edges. It remembers whether memory ran out for one of them.
 #[derive(Drop)]
 pub struct Reach {
     /// Their names.
     pub names: BTreeSet<u64>,
-    // Those of them from which nothing was reached yet.
+    // The names from which nothing was reached yet.
     waiting: Vec<u64>,
-    /// Whether memory was wanting.
+    /// Whether memory ran out.
     pub is_short: bool,
 }
 

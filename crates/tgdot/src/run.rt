@@ -9,24 +9,24 @@ use tg_plain::{PlainRun, Script, value_of};
 use tg_rights::Rights;
 use tg_text::{Answer, Line, Refusal, StockItem};
 
-/// The run of a script. The plain graph of `tg_plain` says what the rules do. Beside it stand what each vertex stores,
-/// and between which vertices there are edges, so that nobody has to ask each pair of vertices for its edge. It
-/// remembers whether memory was wanting for a part of it.
+/// The run of a script. The plain graph of `tg_plain` says what the rules do. The run also keeps what each vertex
+/// stores, and between which vertices there are edges. So an edge is found without a look at each pair of vertices. The
+/// run remembers whether memory ran out for a part of it.
 #[derive(Drop)]
 pub struct ScriptRun {
     alloc: Global,
     plain: PlainRun,
     // What all vertices store that were ever made, by name.
     values: Vec<Value>,
-    // The names of those that are subjects, or were until they retired.
+    // The names of the vertices that are subjects, or were subjects until they retired.
     ever_subjects: BTreeSet<u64>,
     /// The names of the vertices that no collection took.
     pub names: BTreeSet<u64>,
-    /// The ends of the edges, those from vertices that a collection took too.
+    /// The ends of the edges. Edges from vertices that a collection freed are among them.
     pub edges: BTreeSet<(u64, u64)>,
     // What the subjects reached when this was last looked for.
     reached: Reach,
-    // Whether memory was wanting.
+    // Whether memory ran out.
     is_short: bool,
 }
 
@@ -55,13 +55,13 @@ impl ScriptRun {
         }
     }
 
-    /// Whether memory was wanting.
+    /// Whether memory ran out.
     pub fn is_short(&self) -> bool {
         self.is_short || self.reached.is_short
     }
 
-    /// Runs a line with the boxes of this script. What it is answered. An edge line does nothing here: the graph began
-    /// with its edge.
+    /// Runs a line with the boxes of this script, and returns its answer. An edge line does nothing here, because the
+    /// graph began with its edge.
     pub fn take(&mut self, script: &Script, line: &Line) -> Answer {
         match *line {
             Line::Full => self.collect(),
@@ -93,7 +93,7 @@ impl ScriptRun {
         self.was_subject(name) && !self.is_subject(name)
     }
 
-    /// The rights on the edge between these, or none where it isn't there.
+    /// The rights on the edge with these ends. If there is no edge, there are no rights.
     pub fn held(&self, ends: (u64, u64)) -> Rights {
         if self.names.contains(&ends.0) && self.edges.contains(&ends) {
             self.plain.graph.label(ends.0, ends.1)

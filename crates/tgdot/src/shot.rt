@@ -9,7 +9,7 @@ use tg_plain::{PlainRun, PlainText, Script, ScriptLine};
 use tg_rights::Rights;
 use tg_text::write_line;
 
-/// The graph of a run at a step, what its line was answered, and what stands out.
+/// The graph of a run at a step, with the answer to its line, and the marks.
 #[derive(Drop)]
 pub struct Shot {
     /// The number of the line.
@@ -18,7 +18,7 @@ pub struct Shot {
     pub heading: PlainText,
     /// What the line was answered.
     pub told: PlainText,
-    /// What stands out.
+    /// What is highlighted.
     pub marks: Marks,
     /// The run.
     pub run: ScriptRun,
@@ -33,7 +33,7 @@ pub struct VertexView {
     pub look: Style,
 }
 
-/// An edge in a picture. Its text are the rights that are held, and those that are missing.
+/// An edge in a picture. Its text has the rights that are held, and the rights that are missing.
 #[derive(Clone, Copy)]
 pub struct EdgeView {
     held: Rights,
@@ -54,14 +54,14 @@ impl Shot {
         }
     }
 
-    /// Shows what there is before the first command. The number is that of the last edge line, or 0.
+    /// Shows the graph before the first command. Its number is the number of the last edge line, or 0.
     pub fn open(&mut self, script: &Script) {
         self.number = script.edges.len() as u64;
         self.heading.add("start");
         self.run.open(script);
     }
 
-    /// Whether memory was wanting for a part of it.
+    /// Whether memory ran out for a part of it.
     pub fn is_short(&self) -> bool {
         self.run.is_short() || self.heading.is_short || self.told.is_short
     }
@@ -84,7 +84,7 @@ impl Shot {
         self.heading.is_short |= write_line(&mut self.heading, line.line).is_err();
     }
 
-    /// The vertex of this name, where it is shown. One that isn't there is shown where the picture needs it.
+    /// The vertex of this name, if it is shown. A vertex that isn't there is shown if the marks need it.
     pub fn vertex(&self, name: u64) -> Option<VertexView> {
         if !self.run.names.contains(&name) && !self.marks.needs(name) {
             return None;
@@ -95,7 +95,8 @@ impl Shot {
         })
     }
 
-    /// Writes the second line of a vertex, below its name: its law and its state, or that it isn't there.
+    /// Writes the second line of a vertex, below its name. It has the law and the state, or says that the vertex isn't
+    /// there.
     pub fn write_state(&self, text: &mut PlainText, name: u64) {
         match self.run.value(name) {
             Some(value) => write_value(text, value),
@@ -146,7 +147,8 @@ impl Shot {
         look
     }
 
-    /// The edge between these, where it is shown: it is there, or it lacks rights, or it lost its last one.
+    /// The edge with these ends, if it is shown. An edge is shown if it is there, if it lacks rights, or if it has just
+    /// lost its last right.
     pub fn edge(&self, ends: (u64, u64)) -> Option<EdgeView> {
         let held = self.run.held(ends);
         let missing = self.marks.missing_at(ends);
@@ -182,7 +184,7 @@ impl EdgeView {
     }
 }
 
-// Writes the law and the state, each number behind a space.
+// Writes the law and the state, with a space before each number.
 fn write_value(text: &mut PlainText, value: &Value) {
     text.add(word_of(value.law));
     for number in value.state.as_slice() {

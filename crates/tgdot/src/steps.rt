@@ -12,10 +12,12 @@ const MOST_LINES: u64 = 400;
 // The most vertices that are drawn at once, in all steps together.
 const MOST_VERTICES: u64 = 100_000;
 
-/// Writes a digraph for each line in the range, and one before the first of all, which has the number of the last edge
-/// line: it is shown where the range begins at an edge line or at line 1. All have the same vertices and edges, in the
-/// same order: so the lines are run twice, first to learn which there are. Where there is none, the bad line is told
-/// that ends the script, or that there are no such lines.
+/// Writes a digraph for each line in the range. The start, before the first line, has a digraph too. It has the number
+/// of the last edge line. The start is shown if the range begins at an edge line or at line 1.
+///
+/// All digraphs have the same vertices and edges, in the same order. Therefore the lines are run twice. The first run
+/// finds the vertices and edges. If there is no digraph, the fault names the bad line that ends the script, or says
+/// that there are no such lines.
 pub fn write_steps(
     text: &mut PlainText,
     range: LineRange,
@@ -112,7 +114,7 @@ fn show(text: &mut PlainText, frame: &mut Frame, shot: &mut Shot) {
     }
 }
 
-// Whether the graph before the first line is shown: the range begins at an edge line, or at line 1.
+// Whether the graph before the first line is shown. It is shown if the range begins at an edge line, or at line 1.
 fn shows_start(range: LineRange, script: &Script) -> bool {
     range.from <= (script.edges.len() as u64).max(1)
 }

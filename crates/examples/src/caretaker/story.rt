@@ -1,8 +1,8 @@
 //! The story of the caretaker and the visitor.
 //!
-//! No rule takes a right from the one who holds it: a worker gives up its own. So what the caretaker hands on comes
-//! back when the visitor gives it up; and from the moment when the caretaker gives up its own right, it can't be handed
-//! on again.
+//! No rule takes a right from its holder. A worker gives its own right up. So the right that the caretaker hands on
+//! comes back only when the visitor gives it up. After the caretaker has given up its own right, it can't hand the
+//! right on again.
 
 use crate::fault::StoryFault;
 use crate::opening::{grant, limits, read_and_write};
@@ -14,7 +14,7 @@ use tg_payload::{Draft, Payload, values_of};
 use tg_rights::Label;
 use tg_store::{Kind, Store, StoreFault};
 
-// The workers. They are named 0, 1, 2, .., and so are vertices from then on.
+// The workers. They are named 0, 1 and so on. The vertices that are made later get the next names.
 const WORKERS: u64 = 2;
 
 const CARETAKER: u64 = 0;
@@ -36,7 +36,7 @@ enum Move {
     Collect,
 }
 
-// Who asks for what, as it is told.
+// A command with the worker that asks for it, and the words that are printed.
 #[derive(Clone, Copy)]
 struct Request {
     worker: u64,
@@ -45,8 +45,8 @@ struct Request {
 }
 
 // The visitor reads the document, before and after a collection and a write of the caretaker. It gives the right back,
-// and can't read the document any more. Then the caretaker gives up its own: no one can read the document or hand it
-// on, and the next collection drops it.
+// and can't read the document any more. Then the caretaker gives up its own rights. After that nobody can read the
+// document or hand it on, and the next collection drops it.
 const STEPS: [Move; 14] = [
     Move::HandOn,
     Move::Read,
@@ -72,7 +72,7 @@ pub struct Boxes<P: Payload> {
     pub document: P,
 }
 
-/// Opens a store, tells the story in it, and audits its journal. Each step is a line on standard output.
+/// Opens a store, takes the steps of the story in it, and audits its journal. Each step is a line on standard output.
 pub fn run_story<P: Payload, R: Print + AllocGlobal>(
     rt: &R,
     boxes: Boxes<P>,
@@ -91,14 +91,14 @@ pub fn run_story<P: Payload, R: Print + AllocGlobal>(
     told
 }
 
-// A store with two workers, of whom the caretaker has the right to grant over the visitor.
+// A store with two workers. The caretaker has the right to grant over the visitor.
 fn open_store<P: Payload>(alloc: Global, caretaker: P, visitor: P) -> Result<Store<P>, StoreFault> {
     let drafts = drafts_of(alloc, caretaker, visitor)?;
     let opening = opening_of(alloc, &drafts)?;
     Ok(Store::open(alloc, opening, limits()?, drafts)?)
 }
 
-// What the two workers store, by rising name.
+// The drafts of the two workers, by rising name.
 fn drafts_of<P: Payload>(
     alloc: Global,
     caretaker: P,
@@ -110,7 +110,7 @@ fn drafts_of<P: Payload>(
     Ok(drafts)
 }
 
-// Workers who store what is in the drafts, and an edge from the caretaker to the visitor.
+// The opening, with workers that store the numbers of the drafts, and an edge from the caretaker to the visitor.
 fn opening_of<P: Payload>(alloc: Global, drafts: &[Draft<P>]) -> Result<Opening, StoreFault> {
     let values = values_of(alloc, drafts)?;
     let edge = Edge {
@@ -122,13 +122,13 @@ fn opening_of<P: Payload>(alloc: Global, drafts: &[Draft<P>]) -> Result<Opening,
     Ok(Opening::new(WORKERS, edges, values, MOST_VERTICES)?)
 }
 
-// Makes the document, which the caretaker may read and write, and answers its name.
+// Makes the document, which the caretaker may read and write. Returns its name.
 fn make<P: Payload>(alloc: Global, store: &mut Store<P>, document: P) -> Result<u64, StoreFault> {
     let draft = Draft::new(alloc, document)?;
     Ok(store.create(CARETAKER, read_and_write(), draft)?)
 }
 
-// Tells what becomes of the document, one step after the other, and audits the journal.
+// Takes the steps, one after the other, and audits the journal.
 fn tell_story<P: Payload, R: Print + AllocGlobal>(
     rt: &R,
     store: &mut Store<P>,
@@ -142,7 +142,7 @@ fn tell_story<P: Payload, R: Print + AllocGlobal>(
     tell_audit(rt, entries)
 }
 
-// Has the one whose step it is ask for it, and prints the reply.
+// Takes one step. The worker of the step asks for its command, and the reply is printed.
 fn act<P: Payload, R: Print>(
     rt: &R,
     store: &mut Store<P>,
@@ -156,7 +156,7 @@ fn act<P: Payload, R: Print>(
 }
 
 impl Move {
-    // Who asks for what; `None` for a collection.
+    // The request of a step. A collection has none.
     fn asked(self, document: u64) -> Option<Request> {
         let (worker, words, command) = match self {
             Move::HandOn => (CARETAKER, "caretaker hands r on", hand_on(document)),
@@ -205,7 +205,7 @@ fn give_up(target: u64, rights: Label) -> Command {
     Command::Remove { target, rights }
 }
 
-// Puts a command of the worker to the store, and prints the reply. A denial is a reply.
+// Asks the store for a command of the worker, and prints the reply. A denial is a reply.
 fn ask<P: Payload, R: Print>(
     rt: &R,
     store: &mut Store<P>,
@@ -226,7 +226,7 @@ fn collect<P: Payload, R: Print>(rt: &R, store: &mut Store<P>) -> Result<(), Sto
     Ok(())
 }
 
-// Audits the store's own journal, and answers how many entries it has.
+// Audits the store's own journal. Returns how many entries it has.
 fn audited<P: Payload>(alloc: Global, store: &Store<P>) -> Result<u64, StoreFault> {
     let audited = store.audit(alloc)?;
     Ok(audited.entries())

@@ -1,4 +1,4 @@
-//! What each of the three does with its session.
+//! The part of each of the three in the story.
 
 use super::opening::HAND;
 use crate::opening::write_right;
@@ -11,7 +11,7 @@ use tg_store::{Kind, StoreFault};
 // How often the client reads its paper and collects.
 const READS: u64 = 20;
 
-/// What became of the three errands: whether each was done.
+/// Whether each of the three errands was done.
 #[derive(Clone, Copy)]
 pub struct Errands {
     /// The ledger, written with the deputy's own rights.
@@ -22,7 +22,7 @@ pub struct Errands {
     pub ledger_by_hand: bool,
 }
 
-// Puts a command to the store, and answers whether it was done. A denial is no refusal.
+// Asks the store for a command. Returns whether it was done. A denial is no refusal.
 fn is_done<L: Round, P: Payload, R: Wait>(
     rt: &R,
     store: &SharedStore<L, P>,
@@ -35,7 +35,7 @@ fn is_done<L: Round, P: Payload, R: Wait>(
     }
 }
 
-/// Hands the client's right to write to the paper on to the deputy's hand. Answers whether that was done.
+/// Hands the client's right to write to the paper on to the deputy's hand. Returns whether it was done.
 pub fn hand_on<L: Round, P: Payload, R: Wait>(
     rt: &R,
     store: &SharedStore<L, P>,
@@ -50,7 +50,7 @@ pub fn hand_on<L: Round, P: Payload, R: Wait>(
     is_done(rt, store, client, grant)
 }
 
-// Writes 1 to the target, and answers whether that was done.
+// Writes 1 to the target. Returns whether it was done.
 fn write<L: Round, P: Payload, R: Wait>(
     rt: &R,
     store: &SharedStore<L, P>,
@@ -60,7 +60,7 @@ fn write<L: Round, P: Payload, R: Wait>(
     is_done(rt, store, session, Command::Write { target, value: 1 })
 }
 
-/// What the deputy does on its thread: it runs the client's errands, with its own rights and with those of its hand.
+/// The deputy's part on its thread. It runs the client's errands, with its own rights and with those of its hand.
 pub fn run_errands<L: Round, P: Payload, R: Wait>(
     rt: &R,
     store: &SharedStore<L, P>,
@@ -76,7 +76,7 @@ pub fn run_errands<L: Round, P: Payload, R: Wait>(
     })
 }
 
-/// What the client does on its thread: it reads its paper and collects, again and again.
+/// The client's part on its thread. It reads its paper and collects, again and again.
 pub fn read_and_collect<L: Round, P: Payload, R: Wait>(
     rt: &R,
     store: &SharedStore<L, P>,

@@ -16,8 +16,8 @@ use tg_payload::CellPayload;
 use tg_shared::{Blanks, Round, Session, Shared, SharedStore, close};
 use tg_store::{Store, StoreFault};
 
-/// Opens a store, tells the story in it on two threads, and audits its journal from an opening of its own. Answers how
-/// many entries there are, too.
+/// Opens a store, plays the story in it on two threads, and audits its journal from an opening of its own. Returns the
+/// ending, and how many entries there are.
 pub fn run_round<R: Threads + Wait + Sync>(
     rt: &R,
     alloc: Global,
@@ -32,7 +32,7 @@ pub fn run_round<R: Threads + Wait + Sync>(
     }
 }
 
-// Shares the store, tells the story, closes and audits.
+// Shares the store, plays the story, closes and audits.
 fn share<L: Round + Send + Sync, R: Threads + Wait + Sync>(
     rt: &R,
     alloc: Global,
@@ -47,7 +47,7 @@ fn share<L: Round + Send + Sync, R: Threads + Wait + Sync>(
     }
 }
 
-// Tells the story, closes and audits.
+// Plays the story, closes and audits.
 fn tell_and_close<L: Round + Send + Sync, R: Threads + Wait + Sync>(
     rt: &R,
     alloc: Global,
@@ -63,7 +63,7 @@ fn tell_and_close<L: Round + Send + Sync, R: Threads + Wait + Sync>(
     Ok((told?, entries?))
 }
 
-// Closes with all sessions. How many entries the journal has, which passed its audit.
+// Closes with all sessions, and audits the journal. Returns how many entries the journal has.
 fn close_and_audit<L: Round>(
     alloc: Global,
     store: SharedStore<L, CellPayload>,
@@ -79,7 +79,7 @@ fn close_and_audit<L: Round>(
     }
 }
 
-// How many entries the journal has, which is a legal history of the opening that the program makes anew.
+// Audits the journal as a legal history of the opening that the program makes anew. Returns how many entries it has.
 fn audited(alloc: Global, journal: &Journal) -> Result<u64, StoreFault> {
     let kept = opening(alloc)?;
     audit(alloc, &kept, journal.entries())?;
@@ -99,7 +99,7 @@ fn tell<L: Round + Send + Sync, R: Threads + Wait + Sync>(
     }
 }
 
-// What is made, and then what the three do on their threads.
+// Makes the ledger and the paper. Then the deputy, its hand and the client do their parts on their threads.
 fn tell_of_three<L: Round + Send + Sync, R: Threads + Wait + Sync>(
     rt: &R,
     alloc: Global,
@@ -136,7 +136,7 @@ fn make_and_hand_on<L: Round, R: Wait>(
     Ok(paper)
 }
 
-// How it ended, where both threads came to their ends.
+// The ending, if both threads came to their ends.
 fn ended(
     ledger: u64,
     paper: u64,

@@ -1,11 +1,11 @@
-//! What is told of the story.
+//! The lines that are printed of the story.
 
 use super::errands::Errands;
 use crate::fault::StoryFault;
 use crate::tell::tell_audit;
 use std::io;
 
-/// What became of the story.
+/// The ending of the story.
 #[derive(Clone, Copy)]
 pub struct Ending {
     /// The names of the ledger and of the paper.
@@ -14,7 +14,7 @@ pub struct Ending {
     pub errands: Errands,
 }
 
-/// Prints it, with the number of entries of the journal, which passed its audit.
+/// Prints the ending, with the number of entries of the journal, which passed its audit.
 pub fn print_ending<R: Print>(rt: &R, ending: &Ending, entries: u64) -> Result<(), StoryFault> {
     print_errands(rt, ending)?;
     tell_audit(rt, entries)

@@ -9,8 +9,8 @@ use tg_rights::Label;
 use tg_shared::{Round, Session, SharedStore};
 use tg_store::{ApplyFault, Kind, StoreFault};
 
-/// What a client sees as it leaves: how many vertices a full collection counts before and after, how many edges it gave
-/// up, and why its next line is refused.
+/// The numbers that a client sees as it leaves. They are how many vertices a full collection counts before and after,
+/// and how many edges it gave up. The last field is why its next line is refused.
 #[derive(Clone, Copy)]
 pub struct Leave {
     pub before: u64,
@@ -19,19 +19,19 @@ pub struct Leave {
     pub refused: Option<ApplyFault>,
 }
 
-/// What is known of a client: its name, and its document's.
+/// The names of a client and of its document.
 #[derive(Clone, Copy)]
 pub struct DocumentPlace {
     pub client: u64,
     pub document: u64,
 }
 
-/// A draft of a sum that begins with 0, which is what every vertex stores.
+/// A draft of a sum that begins with 0. Each vertex of the story stores such a sum.
 pub fn zero(alloc: Global) -> Result<Draft<SumPayload>, StoreFault> {
     Ok(Draft::new(alloc, SumPayload::new(0))?)
 }
 
-// Makes a vertex that stores 0. Answers its name.
+// Makes a vertex that stores 0. Returns its name.
 fn make_zero<L: Round, R: Wait + AllocGlobal>(
     rt: &R,
     store: &SharedStore<L, SumPayload>,
@@ -41,7 +41,7 @@ fn make_zero<L: Round, R: Wait + AllocGlobal>(
     make(rt, store, session, rights, zero(rt.alloc())?)
 }
 
-// Lets the session's subject command. What is replied is passed over.
+// Lets the session's subject command. The reply is ignored.
 fn command<L: Round, P: Payload, R: Wait>(
     rt: &R,
     store: &SharedStore<L, P>,
@@ -52,7 +52,7 @@ fn command<L: Round, P: Payload, R: Wait>(
     Ok(())
 }
 
-/// Makes a document and spawns a client, with these rights over both, and puts its session behind those of the other
+/// Makes a document and spawns a client, with these rights over both, and adds its session to the sessions of the other
 /// clients. Hands the rights over the document on to the client.
 pub fn welcome<L: Round, R: Wait + AllocGlobal>(
     rt: &R,
@@ -72,7 +72,7 @@ pub fn welcome<L: Round, R: Wait + AllocGlobal>(
     Ok(DocumentPlace { client, document })
 }
 
-// Spawns a client over which the service has these rights. Answers its name.
+// Spawns a client over which the service has these rights. Returns its name.
 fn spawn<L: Round, R: Wait + AllocGlobal>(
     rt: &R,
     store: &SharedStore<L, SumPayload>,
@@ -86,7 +86,7 @@ fn spawn<L: Round, R: Wait + AllocGlobal>(
     Ok(name)
 }
 
-/// Welcomes a client that makes a note and then hangs: its session never comes back.
+/// Welcomes a client that makes a note and then hangs. Its session never comes back.
 pub fn welcome_and_lose<L: Round, R: Wait + AllocGlobal>(
     rt: &R,
     store: &SharedStore<L, SumPayload>,
@@ -116,7 +116,7 @@ pub fn work<L: Round, P: Payload, R: Wait>(
     Ok(())
 }
 
-/// Works, makes two notes that the client alone has these rights over, and leaves.
+/// Works, makes two notes over which the client alone has these rights, and leaves.
 pub fn work_and_leave<L: Round, R: Wait + AllocGlobal>(
     rt: &R,
     store: &SharedStore<L, SumPayload>,

@@ -19,7 +19,7 @@ use tg_rights::Label;
 use tg_shared::{Blanks, Keeper, Round, Session, Shared, SharedStore, reclaim};
 use tg_store::{Kind, Store, StoreFault};
 
-/// Opens a store, shares it, serves in it on threads, has it back and audits its journal. What comes of it is printed.
+/// Opens a store, shares it, serves in it on threads, takes it back and audits its journal. Each result is printed.
 pub fn run_story<R: Threads + Wait + Sync + Print + AllocGlobal>(rt: &R) -> Result<(), StoryFault> {
     let store = open_store(rt.alloc())?;
     match Blanks::new(rt.alloc(), store.opening().max_vertices() + 1) {
@@ -59,7 +59,7 @@ fn share<L: Round + Send + Sync, R: Threads + Wait + Sync + Print + AllocGlobal>
     }
 }
 
-// Serves, has the store back with all sessions but the one that hangs, and audits the journal.
+// Serves, takes the store back with all sessions but that of the client that hangs, and audits the journal.
 fn serve_and_audit<L: Round + Send + Sync, R: Threads + Wait + Sync + Print + AllocGlobal>(
     rt: &R,
     shared: Shared<L, SumPayload>,
@@ -76,7 +76,8 @@ fn serve_and_audit<L: Round + Send + Sync, R: Threads + Wait + Sync + Print + Al
     tell_audit(rt, served.and(entries)?)
 }
 
-// Has the store back with the sessions that there are. How many entries its journal has, which passed its audit.
+// Takes the store back with the sessions that there are, and audits its journal. Returns how many entries the journal
+// has.
 fn reclaim_and_audit<L: Round>(
     alloc: Global,
     store: SharedStore<L, SumPayload>,
@@ -97,7 +98,7 @@ fn audited(alloc: Global, store: &Store<SumPayload>) -> Result<u64, StoreFault> 
     Ok(store.journal().len())
 }
 
-// Lets the service, which has the only session, serve. The clients' sessions and its own stand there in the end.
+// Lets the service, which has the only session, serve. In the end the clients' sessions and its own are in the list.
 fn serve<L: Round + Send + Sync, R: Threads + Wait + Sync + Print + AllocGlobal>(
     rt: &R,
     store: &SharedStore<L, SumPayload>,
@@ -112,7 +113,7 @@ fn serve<L: Round + Send + Sync, R: Threads + Wait + Sync + Print + AllocGlobal>
     served
 }
 
-// Lets three clients come, work, and one of them leave, and a fourth that hangs. Tells what came of it.
+// Lets three clients come and work, of which one leaves, and a fourth that hangs. Prints the result.
 fn serve_clients<L: Round + Send + Sync, R: Threads + Wait + Sync + Print + AllocGlobal>(
     rt: &R,
     store: &SharedStore<L, SumPayload>,
@@ -130,7 +131,7 @@ fn serve_clients<L: Round + Send + Sync, R: Threads + Wait + Sync + Print + Allo
     tell_all(rt, store, keeper, service, documents, hung)
 }
 
-// Tells what each wrote, and ends the one that hangs.
+// Prints the number of each document, and ends the client that hangs.
 fn tell_all<L: Round, P: Payload, R: Wait + Print>(
     rt: &R,
     store: &SharedStore<L, P>,
@@ -226,7 +227,7 @@ fn tell_document<L: Round, P: Payload, R: Wait + Print>(
     Ok(())
 }
 
-// Ends the client if it hangs: if its document still says 0 when the others are done.
+// Ends the client if it hangs. A client hangs if its document still stores 0 when the others are done.
 fn end_if_silent<L: Round, P: Payload, R: Wait + Print>(
     rt: &R,
     store: &SharedStore<L, P>,
@@ -257,7 +258,7 @@ fn end_and_tell<L: Round, P: Payload, R: Wait + Print>(
     Ok(())
 }
 
-// Ends the client, and collects. How many edges it gave up, and how many vertices are left.
+// Ends the client, and collects. Returns how many edges it gave up, and how many vertices are left.
 fn end<L: Round, P: Payload, R: Wait>(
     rt: &R,
     store: &SharedStore<L, P>,
@@ -272,7 +273,7 @@ fn end<L: Round, P: Payload, R: Wait>(
     Ok((given_up, left))
 }
 
-// The number that a document says.
+// The number that a document stores.
 fn said<L: Round, P: Payload, R: Wait>(
     rt: &R,
     store: &SharedStore<L, P>,

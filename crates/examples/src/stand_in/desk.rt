@@ -1,8 +1,9 @@
-//! A desk: an owner's thing, and what stands in for it.
+//! A desk, with an owner's thing, and a stand-in for the thing.
 //!
-//! No rule takes a right from the one who holds it. So who may want to take back never hands the thing out: it makes a
-//! vertex of its own that stands in for the thing, hands out the right to read that, and fills it with what the thing
-//! says. Taking back is to stop: what stands in stays as it was left, and tells nothing of what the thing becomes.
+//! No rule takes a right from its holder. So an owner that needs to take back never hands the thing itself out. The
+//! owner makes a second vertex, the stand-in, and hands out the right to read the stand-in. It fills the stand-in with
+//! the number of the thing. To take back, the owner stops to fill it. The stand-in stays as it was left, and shows
+//! nothing of later changes of the thing.
 ghost use Rattle.std.specs.Prelude.{◌≡◌, ◌≢◌, ℕ, Bool, IfOk, OnOk, OnErr, IsTrue};
 ghost use Rattle.std.specs.List.{All};
 ghost use Rattle.tg_rights.specs.RightSet.{only};
@@ -26,9 +27,9 @@ use tg_store::{Limits, Store, StoreFault};
 /// The worker whose thing it is, the first of each opening. All others are clients.
 pub const OWNER: u64 = 0;
 
-/// A store in which an owner has a thing and what stands in for it. Of every desk it is proved, whatever its clients
-/// ask for: none but the owner holds any right over the thing, nor one to change what stands in for it; and nobody may
-/// take from the owner (`DeskIsKept`).
+/// A store in which an owner has a thing and a stand-in for it. Three facts are proved of every desk, whatever its
+/// clients ask for (`DeskIsKept`). Only the owner holds any right over the thing. Only the owner holds a right to
+/// change the stand-in. Nobody may take from the owner.
 #[derive(Drop)]
 pub struct Desk<P: Payload> {
     store: Store<P>,
@@ -47,9 +48,8 @@ impl<P: Payload> Model for Desk<P> {
 }
 
 impl<P: Payload> Desk<P> {
-    /// Opens a store, in which the owner makes the thing and what stands in for it, over both of which it has the
-    /// rights of the label. `NotAlone` is answered where an edge of the opening leads to the owner; else what the store
-    /// refuses is.
+    /// Opens a store, in which the owner makes the thing and the stand-in. The owner has the rights of the label over
+    /// both. `NotAlone` is returned if an edge of the opening leads to the owner. Then come the refusals of the store.
     pub fn open(
         alloc: Global,
         opening: Opening,
@@ -65,7 +65,7 @@ impl<P: Payload> Desk<P> {
         Ok(furnished(alloc, opening, limits, drafts, rights, thing, stand_in)?)
     }
 
-    /// The store. That the owner's are its own is told here.
+    /// The store. This call shows what every desk keeps (`kept`).
     pub fn store(&self) -> &Store<P>
         ensures same { result.now ≡ self.now.store }
         ensures kept { DeskIsKept self.now }
@@ -80,15 +80,16 @@ impl<P: Payload> Desk<P> {
         self.thing
     }
 
-    /// The name of what stands in for it.
+    /// The name of the stand-in.
     pub fn stand_in(&self) -> u64
         ensures { result ≡ self.now.stand_in }
     {
         self.stand_in
     }
 
-    /// Puts a command of a client to the store: whatever it asks for, what stands in stays as the owner left it, and
-    /// whoever reads it is told that or is denied. Refused are the owner, by `IsOwner`, and what the store refuses.
+    /// Asks the store for a command of a client. Whatever the command is, the stand-in stays as the owner left it. A
+    /// client that reads the stand-in gets its number, or is denied. The owner is refused with `IsOwner`. All other
+    /// refusals are the store's.
     pub fn ask(&mut self, client: u64, command: Command) -> Result<Reply, DeskFault>
         ensures reply { IfOk result (λ reply. reply ≡ answer_of (graph_of_desk self.old) client (Plain command)) }
         ensures step { OnOk result (StandsNow (step (graph_of_desk self.old) client (Plain command)) self.old self.new) }
@@ -102,8 +103,8 @@ impl<P: Payload> Desk<P> {
         Ok(answered(&mut self.store, client, command)?)
     }
 
-    /// The owner hands the right to read what stands in for the thing on to a client, over whom it needs the right to
-    /// grant. Answers the store's reply.
+    /// The owner hands the right to read the stand-in on to a client, over whom it needs the right to grant. Returns
+    /// the store's reply.
     pub fn hand_out(&mut self, client: u64) -> Result<Reply, DeskFault>
         ensures left { shown_at self.new ≡ shown_at self.old }
     {
@@ -115,8 +116,8 @@ impl<P: Payload> Desk<P> {
         Ok(answered(&mut self.store, OWNER, grant)?)
     }
 
-    /// The owner fills what stands in with what the thing says now, its first number. Answers the store's reply to the
-    /// write; `NoNumber` where the thing tells none.
+    /// The owner fills the stand-in with the first number of the thing. Returns the store's reply to the write.
+    /// `NoNumber` is returned if the thing stores no number.
     pub fn fill(&mut self) -> Result<Reply, DeskFault> {
         let read = Command::Read { target: self.thing };
         let said = answered(&mut self.store, OWNER, read)?;
@@ -126,7 +127,7 @@ impl<P: Payload> Desk<P> {
         self.put(number)
     }
 
-    /// The owner puts a number into what stands in. Answers the store's reply.
+    /// The owner writes a number to the stand-in. Returns the store's reply.
     pub fn put(&mut self, value: u64) -> Result<Reply, DeskFault> {
         let write = Command::Write {
             target: self.stand_in,
@@ -141,7 +142,7 @@ impl<P: Payload> Desk<P> {
         store.let_go();
     }
 
-    /// The owner puts a number into the thing. Answers the store's reply.
+    /// The owner writes a number to the thing. Returns the store's reply.
     pub fn change(&mut self, value: u64) -> Result<Reply, DeskFault>
         ensures left { shown_at self.new ≡ shown_at self.old }
     {
@@ -160,7 +161,7 @@ fn none_leads_to_owner(edges: &[Edge]) -> bool
     edges.iter().all(|edge| edge.to != OWNER)
 }
 
-// A store in which the owner has made a thing and what stands in for it.
+// A store in which the owner has made a thing and a stand-in for it.
 fn furnished<P: Payload>(
     alloc: Global,
     opening: Opening,
@@ -215,7 +216,7 @@ fn opened<P: Payload>(
     Ok(store)
 }
 
-// Has the owner make the thing and what stands in for it. Their names.
+// Has the owner make the thing and the stand-in. Returns their names.
 fn furnish<P: Payload>(
     store: &mut Store<P>,
     rights: Label,
@@ -244,7 +245,7 @@ fn made<P: Payload>(store: &mut Store<P>, rights: Label, draft: Draft<P>) -> Res
     ensures next { IfOk result (λ name. name ≡ (graph_of_store store.old).made) }
     ensures kept { OnOk result ((which : RightOf → Bool) (y : ℕ) → IsAlone which OWNER y (graph_of_store store.old) → IsAlone which OWNER y (graph_of_store store.new)) }
 {
-    // It tells that the store is faithful.
+    // This call shows that the store is faithful.
     let _ = store.journal();
     Ok(store.create(OWNER, rights, draft)?)
 }
@@ -269,7 +270,7 @@ pub fn read_right() -> Label
     Label::new(Rights::of(Right::R)).unwrap()
 }
 
-// The first number that a reply tells.
+// The first number of a reply.
 fn first_number(reply: &Reply) -> Option<u64> {
     match reply {
         Reply::Values(values) => values.as_slice().first().copied(),

@@ -6,7 +6,7 @@ use thiserror::Error;
 /// Why a desk was not opened, or a call of it was refused. The desk is as it was.
 #[derive(Clone, Copy, PartialEq, Eq, Debug, Error)]
 pub enum DeskFault {
-    /// An edge leads to the owner, so somebody might take from it.
+    /// An edge leads to the owner, so a subject might take from it.
     #[error("an edge leads to the owner")]
     NotAlone,
     /// The owner asks by the calls of the desk, and by no command of its own.
@@ -15,7 +15,7 @@ pub enum DeskFault {
     /// The thing stores no number.
     #[error("the thing stores no number")]
     NoNumber,
-    /// The store refused a call, or memory for it was wanting.
+    /// The store refused a call, or memory for it ran out.
     #[error("{0}")]
     Store(StoreFault),
 }

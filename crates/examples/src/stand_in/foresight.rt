@@ -1,7 +1,7 @@
-//! What the owner asks before it hands anything out: could the client ever come to more?
+//! The owner's question before it hands anything out. It asks whether the client could ever come to hold more.
 //!
-//! The question is put to a picture of the store, as if the grant were made already. The owner is silent in it, since
-//! the program speaks for it. All others do whatever they like.
+//! The question is about a picture of the store, as if the grant were made already. The owner is silent in it, because
+//! the program speaks for the owner. All others do whatever they like.
 ghost use Rattle.std.specs.Prelude.{ℕ, List, IfOk, IsTrue};
 ghost use Rattle.tg_rights.specs.declared.Right.{Right as RightOf};
 ghost use Rattle.tg_model.specs.Graph.{ProtectionGraph};
@@ -15,8 +15,8 @@ use tg_model::Edge;
 use tg_payload::Payload;
 use tg_store::Store;
 
-/// Whether x never holds the right over y once these edges are granted, whatever all workers but the silent ones do.
-/// `false` says nothing: it is also the answer if an edge doesn't join two different vertices that workers reach. Fails
+/// Whether x never holds the right over y after these edges are granted, whatever the workers that aren't silent do.
+/// `false` says nothing. It is also the answer if an edge doesn't join two different vertices that workers reach. Fails
 /// only when out of memory.
 pub fn never_after<P: Payload>(
     alloc: Global,
@@ -28,7 +28,7 @@ pub fn never_after<P: Payload>(
     ensures { IfOk result (λ never. IsTrue never →
         NeverHolds silent.now (with_edges (graph_of_store store.now) grants.now) question.x question.right question.y) }
 {
-    // It tells that the store stands for a sound graph.
+    // This call shows that the store represents a sound graph.
     let _ = store.journal();
     let picture = store.picture(alloc)?;
     if !join_reached(&picture, grants) {

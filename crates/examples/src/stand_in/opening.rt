@@ -1,4 +1,4 @@
-//! Who there is when the story begins.
+//! The subjects and edges with which the story begins.
 
 use super::desk::{Desk, OWNER};
 use super::fault::DeskFault;
@@ -17,7 +17,7 @@ pub const CLIENT: u64 = 1;
 /// The name of the client's friend.
 pub const FRIEND: u64 = 2;
 
-// What the count says at first.
+// The number that the count stores at first.
 const FIRST_COUNT: u64 = 40;
 
 // The owner has these rights over the client, and the client over its friend.
@@ -36,12 +36,12 @@ fn edges(alloc: Global, rights: Label) -> Result<Vec<Edge>, StoreFault> {
     Ok(edges)
 }
 
-/// The opening: three workers that store cells, of whom each has these rights over the next.
+/// The opening. It has three workers that store cells, and each has these rights over the next worker.
 pub fn opening(alloc: Global, rights: Label) -> Result<Opening, StoreFault> {
     opening_of_three(alloc, edges(alloc, rights)?)
 }
 
-/// A desk with this opening, at which the owner has these rights over the count and over what stands in for it.
+/// A desk with this opening, at which the owner has the rights `own` over the count and over the stand-in.
 pub fn open_desk(alloc: Global, rights: Label, own: Label) -> Result<Desk<CellPayload>, DeskFault> {
     let furniture = to_open(alloc, rights)?;
     let Furniture {

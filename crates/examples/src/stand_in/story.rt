@@ -15,7 +15,7 @@ use tg_payload::Payload;
 use tg_rights::Right;
 use tg_store::StoreFault;
 
-// The steps of the story: what the owner does, and what the client and its friend ask for.
+// The steps of the story. The owner does some of them, and the client and its friend ask for the others.
 #[derive(Clone, Copy)]
 enum Step {
     HandOut,
@@ -29,8 +29,8 @@ enum Step {
     ReadAsFriend,
 }
 
-// The client is handed the right to read what stands in, and asks for more. The owner fills what stands in, and the
-// client and its friend read it. Then the owner empties what stands in, and stops.
+// The client gets the right to read the stand-in, and asks for more. The owner fills the stand-in, and the client and
+// its friend read it. Then the owner empties the stand-in, and stops.
 const STEPS: [Step; 13] = [
     Step::HandOut,
     Step::ReadCount,
@@ -48,7 +48,7 @@ const STEPS: [Step; 13] = [
 ];
 
 impl Step {
-    // What is told of it, before the reply.
+    // The words that are printed before the reply.
     fn words(self) -> &'static str {
         match self {
             Step::HandOut => "owner hands r over the stand-in out",
@@ -64,7 +64,7 @@ impl Step {
     }
 }
 
-/// Opens a desk, tells the story at it, and audits the journal. Each step is a line on standard output.
+/// Opens a desk, plays the story at it, and audits the journal. Each step is a line on standard output.
 pub fn run_story<R: Print + AllocGlobal>(rt: &R) -> Result<(), StoryFault> {
     let alloc = rt.alloc();
     let mut desk = open_desk(alloc, grant(), read_and_write())?;
@@ -150,7 +150,7 @@ fn hand_on(target: u64) -> Command {
     }
 }
 
-// How many entries the journal has, which is a legal history of the opening that the program makes anew.
+// Audits the journal as a legal history of the opening that the program makes anew. Returns how many entries it has.
 fn audited<P: Payload>(alloc: Global, desk: &Desk<P>) -> Result<u64, StoreFault> {
     let kept = opening(alloc, grant())?;
     let journal = desk.store().journal();

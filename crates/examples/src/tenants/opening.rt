@@ -1,4 +1,4 @@
-//! Who there is when the story begins.
+//! The subjects with which the story begins.
 ghost use Rattle.std.specs.Prelude.{◌≡◌, ◌+◌, ◌≤◌, IfOk};
 ghost use Rattle.tg_store.specs.Store.{graph_of_store};
 
@@ -8,12 +8,12 @@ use tg_model::Opening;
 use tg_payload::{CellPayload, Draft, values_of};
 use tg_store::{Store, StoreFault};
 
-// What the two tenants store: a cell with 0 each.
+// The drafts of the two tenants. Each is a cell with 0.
 fn cells(alloc: Global) -> Result<Vec<Draft<CellPayload>>, StoreFault> {
     Ok(vec![in alloc; cell(alloc, 0)?, cell(alloc, 0)?]?)
 }
 
-// The opening: two tenants with these cells. Two more vertices may be made.
+// The opening, with two tenants that store these cells. Two more vertices may be made.
 fn opening_of(alloc: Global, drafts: &[Draft<CellPayload>]) -> Result<Opening, StoreFault>
     ensures { IfOk result (λ opening. (opening.workers ≡ 2) × (opening.limit ≡ 4)) }
 {

@@ -23,19 +23,19 @@ const WHOLE: Portion = Portion {
     entries: 7,
 };
 
-// What the one may make who then lacks an entry.
+// What the tenant may make that then lacks an entry.
 const SHORT: Portion = Portion {
     vertices: 1,
     entries: 3,
 };
 
-// What the other one may make.
+// What the other tenant may make.
 const AMPLE: Portion = Portion {
     vertices: 1,
     entries: 4,
 };
 
-/// Opens a store, shares out what may be made, and lets both tenants work. What comes of it is printed.
+/// Opens a store, shares out what may be made, and lets both tenants work. Each result is printed.
 pub fn run_story<R: Wait + Print + AllocGlobal>(rt: &R) -> Result<(), StoryFault> {
     share_out(rt, open_store(rt.alloc())?)
 }
@@ -74,7 +74,7 @@ fn share<L: Round, V: Ledger, E: Ledger, R: Wait + Print + AllocGlobal>(
     }
 }
 
-// Lets one tenant work with too short a share, and then the other one. The store is let go.
+// Lets one tenant work with too short a share, and then the other tenant. The store is let go.
 fn work_in_turn<L: Round, V: Ledger, E: Ledger, R: Wait + Print + AllocGlobal>(
     rt: &R,
     shared: SharedOut<L, V, E, CellPayload>,
@@ -108,7 +108,7 @@ fn work_with<L: Round, V: Ledger, E: Ledger, R: Wait + Print + AllocGlobal>(
     }
 }
 
-// The next tenant: the last of these sessions, and this share of the purse.
+// The next tenant, with the last of these sessions and this share of the purse.
 fn tenant_of<L: Round, V: Ledger, E: Ledger>(
     sessions: &mut Vec<Session<L>>,
     purse: &mut Purse<V, E>,
@@ -135,7 +135,7 @@ fn work<L: Round, V: Ledger, E: Ledger, R: Wait + Print + AllocGlobal>(
     Ok(())
 }
 
-// Prints what came of a write.
+// Prints the outcome of a write.
 fn tell_write<R: Print>(rt: &R, number: u64, outcome: Result<(), StoryFault>) -> io::Result<()> {
     match outcome {
         Ok(()) => println!(rt; "it writes {number}"),
@@ -143,7 +143,7 @@ fn tell_write<R: Print>(rt: &R, number: u64, outcome: Result<(), StoryFault>) ->
     }
 }
 
-// Makes a document, if the purse can pay for a vertex and an entry. Answers its name.
+// Makes a document, if the purse can pay for a vertex and an entry. Returns its name.
 fn make<L: Round, V: Ledger, E: Ledger, R: Wait + AllocGlobal>(
     rt: &R,
     store: &MeteredStore<L, V, E, CellPayload>,

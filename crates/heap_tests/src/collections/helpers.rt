@@ -11,8 +11,8 @@ use std::thread::Threads;
 use tg_parallel::{Gate, HelpersFault, NoGate};
 use tg_space::{Kind, Root, Spaces};
 
-// A heap to collect: what stands in it, how many blocks each space may have, and how many first cells have their rows
-// as roots.
+// A heap to collect: what is in it, how many blocks each space may have, and how many first cells have their rows as
+// roots.
 #[derive(Clone, Copy)]
 struct TriedHeap {
     content: Content,
@@ -39,7 +39,7 @@ fn refusal_of<R: Threads + Wait + Sync, G: Gate>(
     Some(refusal_by(rt, alloc, spaces, roots, kind, helpers, gate))
 }
 
-// The same of this heap.
+// The refusal of a collection of this heap by so many helpers, or none.
 fn refusal<R: Threads + Wait + Sync, G: Gate>(
     rt: &R,
     alloc: Global,
@@ -49,9 +49,11 @@ fn refusal<R: Threads + Wait + Sync, G: Gate>(
 ) -> Option<Option<HelpersFault>>
     requires { (1 ≤ helpers) × (helpers ≤ 8) }
 {
-    let spaces = heap_of(alloc, heap.content, heap.space_blocks)?;
     let roots = rows_of(alloc, heap.content, heap.rows)?;
-    refusal_of(rt, alloc, &spaces, &roots, helpers, gate)
+    let spaces = heap_of(alloc, heap.content, heap.space_blocks)?;
+    let refusal = refusal_of(rt, alloc, &spaces, &roots, helpers, gate);
+    drop(spaces);
+    refusal
 }
 
 // A gate at which each of so many helpers waits at its first pass for all others, for so many turns, until one was
@@ -183,8 +185,8 @@ fn helpers_at_one_gate(rt: HostRuntime) {
     assert_eq!(rt; met_on_linked(&rt, rt.alloc()), wanted);
 }
 
-// Whether two helpers are refused in a heap that wants a block for each and may have one, where their passes are as
-// they should.
+// Whether two helpers are refused in a heap that needs a block for each helper and may have one, if their passes are
+// right.
 fn is_one_refused<R: Threads + Wait + Sync>(rt: &R, alloc: Global) -> Option<bool> {
     let heap = TriedHeap {
         content: Content::Alone,

@@ -22,7 +22,7 @@ pub record Stands (edges : List Edge) (t : Trial) (g : ProtectionGraph) : Type 0
   pub first : AreAmong edges g.label
   pub later : AreAmong t.added.items g.label
 
--- if memory wasn't wanting, the trial stands for the graph, with the edges of the picture
+-- if memory didn't run out, the trial represents the graph, with the edges of the picture
 abbrev pub BeginsAt : Scene → Trial → ProtectionGraph → Type 0
 BeginsAt scene t g = IsOk t.rows.grown → Stands scene.picture.now.edges t g
 
@@ -30,7 +30,7 @@ BeginsAt scene t g = IsOk t.rows.grown → Stands scene.picture.now.edges t g
 abbrev pub SilentBelow : List ℕ → ℕ → ℕ → Type 0
 SilentBelow silent first p = Contains silent p × (p < first)
 
--- the turns are those of who acts, and the trial stands for the graph after them
+-- the turns are those of who acts, and the trial represents the graph after them
 abbrev pub AreTaken : List Edge → (ℕ → Type 0) → ProtectionGraph → List Turn → Trial → Type 0
 AreTaken edges silent g turns t = AreTurns silent g turns × Stands edges t (after g turns)
 
@@ -39,13 +39,13 @@ abbrev pub HeldByEdges : List Edge → Trial → ℕ → ℕ → RightSet → Ty
 HeldByEdges edges t from to rights = (label : ℕ → ℕ → RightSet) → AreAmong edges label → AreAmong t.added.items label →
     HoldsOver label from to rights
 
--- the graph allows the transfer, and the trial stands for the graph after it
+-- the graph allows the transfer, and the trial represents the graph after it
 abbrev pub IsHandedOn : List Edge → Transfer → ProtectionGraph → Trial → Type 0
 IsHandedOn edges h g t = (h.worker ≢ h.via) × (h.via ≢ h.target) × (h.worker ≢ h.target) ×
     HoldsOver g.label h.worker h.via (only h.by) × HoldsOver g.label h.giver h.target h.rights ×
     Stands edges t (record g { label = with_rights g.label h.taker h.target h.rights })
 
--- if the old trial stands for a graph, the new one stands for it after the making
+-- if the old trial represents a graph, the new one represents it after the making
 abbrev pub StandsAfterMaking : Trial → Trial → ℕ → Making → RightSet → Type 0
 StandsAfterMaking old new worker making label = (edges : List Edge) (g : ProtectionGraph) (value : Value) → Stands edges old g →
     Stands edges new (step g worker (deed_making making label value))

@@ -1,5 +1,5 @@
-//! Growth whose want of memory is noted, and told at the end: so each step of a search is a line, and a proof looks at
-//! no exit behind it.
+//! Growth whose lack of memory is noted, and returned at the end. So each step of a search is a line, and a proof looks
+//! at no exit after it.
 ghost use Rattle.std.specs.Prelude.{◌≡◌, IsOk};
 
 use std::alloc::{AllocError, Global};

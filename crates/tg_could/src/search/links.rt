@@ -1,5 +1,5 @@
 //! Edges at each vertex, as chains of links, each with the vertex at the edge's other end. Nothing has to be believed
-//! of them: what is found by them is checked.
+//! of them, because what is found by them is checked.
 use crate::search::growth::{note, push, table};
 use crate::witness::chains::{NONE, number_at, place};
 use std::alloc::{AllocError, Global};

@@ -8,8 +8,8 @@ use std::alloc::{AllocError, Global};
 // How many numbers have their two bits in one word.
 const PAIRS: u64 = 32;
 
-/// Two sets of numbers: of each number a bit for the second set, and above it one for the first. Numbers past the last
-/// word are in none.
+/// Two sets of numbers. Each number has a bit for the second set, and above it a bit for the first. Numbers past the
+/// last word are in none.
 #[derive(Drop)]
 pub(crate) struct Pairs {
     words: Vec<u64>,

@@ -1,6 +1,6 @@
-//! Numbers for the names of a picture. What is kept for each name stands at its number, so that it takes memory by what
-//! the picture shows, and not by how many vertices were ever made. Of a number nothing has to be believed but that a
-//! name has one.
+//! Numbers for the names of a picture. What is kept for each name is at its number. So it takes memory by what the
+//! picture shows, and not by how many vertices were ever made. Of a number nothing has to be believed but that a name
+//! has one.
 ghost use Rattle.std.specs.Prelude.{◌≡◌, ◌+◌, ◌≤◌, length};
 ghost use Rattle.tg_could.specs.Names.{halved, number_in, place_in};
 
@@ -14,7 +14,7 @@ const SPARSE: u64 = 4;
 
 /// A number for each name.
 pub(crate) enum Names {
-    /// Each of so many names is its own number: the picture shows a good part of them.
+    /// Each of so many names is its own number, because the picture shows a good part of them.
     Each(u64),
     /// The names that the picture shows, rising, whose numbers are their places. The second number says in how many
     /// halvings a name is found. All other names have the number after the last.
@@ -85,7 +85,7 @@ impl Names {
 }
 
 // The names of the subjects of a picture, and of both ends of its edges, each once, rising. No vertex has the last
-// number. Notes whether memory was wanting.
+// number. Notes whether memory ran out.
 fn names_shown(alloc: Global, picture: &Picture, grown: &mut Result<(), AllocError>) -> Vec<u64> {
     let mut names = copied(alloc, picture.subjects(), grown);
     let mut last = u64::MAX;
@@ -116,7 +116,8 @@ fn halve(names: &[u64], name: u64, part: (usize, usize)) -> (usize, usize)
     }
 }
 
-// The place of a name in a rising list, to which so many halvings lead; how long the list is where it isn't there.
+// The place of a name in a rising list, which so many halvings find. If the name isn't there, it is the length of the
+// list.
 fn place_of(names: &[u64], steps: u32, name: u64) -> u64
     ensures { result ≡ place_in names.now steps name }
 {

@@ -1,5 +1,6 @@
 //! To whom a right is led, by going over all edges until nothing is new. The search (`search`) is quick, and nothing of
-//! it has to be believed; this is slow and believed, and only asked where the turns that the search found lead nowhere.
+//! it has to be believed. This search is slow and believed. It is only asked if the turns that the first search found
+//! don't give x the right.
 ghost use Rattle.std.specs.Prelude.{◌≡◌, ◌≤◌, ◌<◌, ◌^◌, ℕ, true, false, IsTrue, IfSome, IfNone, IfOk, OnOk};
 ghost use Rattle.tg_rights.specs.declared.Right.TheVariants.{G};
 ghost use Rattle.tg_model.specs.Opened.{label_in};
@@ -217,8 +218,8 @@ impl LedNames {
         Ok(self.len() > before)
     }
 
-    // Whether the right is led to x, who doesn't hold it: x acts and may get it, or may yet be made by one who may, or
-    // is granted to.
+    // Whether the right is led to x, which doesn't hold it. Then x acts and may get it, or may yet be made by a subject
+    // that may get it, or is granted to.
     fn lead_to(&self, scene: &Scene, x: u64) -> bool
         ensures brought { IsTrue result → BringsTo scene.now (sides_led self.now) x }
         ensures not_taken { result ≡ false → NobodyGets scene.now (sides_led self.now) x }

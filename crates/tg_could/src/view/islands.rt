@@ -1,4 +1,4 @@
-//! Islands: those who act, joined where one can hand on to another what it gets.
+//! Islands. An island is a set of subjects that act, of which each can hand on to the others what it gets.
 ghost use Rattle.std.specs.Prelude.{◌≡◌, IsTrue};
 ghost use Rattle.std.specs.List.{All};
 ghost use Rattle.tg_could.specs.View.{JoinsEntry, IsOfOne, name_word as word_in};
@@ -59,7 +59,7 @@ impl Islands {
         is_single(self.word(names.number(name)))
     }
 
-    /// The word of a number: from which islands a walk leads to its vertex.
+    /// The word of a number. It says from which islands a walk leads to its vertex.
     pub(crate) fn word(&self, number: u64) -> u64
         ensures { result ≡ word_in self.now.reached.items number }
     {
@@ -85,7 +85,7 @@ impl Islands {
         true
     }
 
-    // The same of one edge.
+    // Whether the words count one edge, and it doesn't join two islands.
     fn is_joined(&self, entry: &PackedEdge) -> bool
         ensures { IsTrue result → JoinsEntry self.now entry.now }
     {

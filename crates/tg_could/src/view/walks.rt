@@ -1,7 +1,7 @@
-//! Who walks to each vertex along take edges: a bit for each of those who act. One search from them, depth first, in
-//! vertices + edges: vertices that walk to each other make a knot, and a knot is left behind all that it leads to; so
-//! back from the last one, each knot hands its bits on when it has all. Only what is walked to is looked at. Nothing is
-//! believed of it: what it finds is checked.
+//! Who walks to each vertex along take edges, with a bit for each subject that acts. One search from them, depth first,
+//! takes time as vertices + edges. Vertices that walk to each other make a knot. A knot is left after all knots that it
+//! leads to. So from the last knot back, each knot hands its bits on when it has all of them. Only what is walked to is
+//! looked at. Nothing is believed of it, because what it finds is checked.
 use crate::search::growth::{note, push, table};
 use crate::search::links::{Link, Links, number_of};
 use crate::search::names::Names;
@@ -59,10 +59,10 @@ struct Visit {
     next: u32,
 }
 
-// For each vertex a number: 0 where it wasn't come to, else the least number of those that it was seen to be in one
-// knot with, `NONE` when its knot was left. The path leads to where the search is; open are those whose knot wasn't
-// left yet; left are the others, knot by knot, and where each knot starts. Where memory was wanting once, the end tells
-// it.
+// Each vertex has a number. It is 0 if the search didn't come to the vertex yet, and `NONE` if its knot was left.
+// Otherwise it is the least number of the vertices that are known to be in one knot with it. The path leads to where
+// the search is. `open` has the vertices whose knot wasn't left yet. `left` has the others, knot by knot, and `starts`
+// has where each knot starts. If memory ran out once, the end reports it.
 #[derive(Drop)]
 struct DepthFirst {
     numbers: Vec<u32>,
@@ -75,7 +75,7 @@ struct DepthFirst {
 }
 
 impl DepthFirst {
-    // Nobody was come to. Notes whether memory was wanting.
+    // Nobody was come to. Notes whether memory ran out.
     fn new(alloc: Global, count: usize, grown: &mut Result<(), AllocError>) -> DepthFirst {
         DepthFirst {
             numbers: table(alloc, 0, count, grown),

@@ -1,5 +1,5 @@
 //! The edges from each vertex, as chains through a list of edges and those that came since. Nothing is believed of
-//! them: who follows one looks at the edge.
+//! them, because whoever follows a chain looks at the edge.
 use crate::search::growth::{push, table};
 use crate::search::names::Names;
 use std::alloc::{AllocError, Global};

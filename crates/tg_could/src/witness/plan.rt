@@ -1,5 +1,5 @@
-//! Turns that are to lead to a right, tried on the graph of a picture. Nothing has to be believed of them: they are
-//! replayed.
+//! Turns that are to lead to a right, tried on the graph of a picture. Nothing has to be believed of them, because they
+//! are replayed.
 use crate::question::Question;
 use crate::search::growth::{note, push};
 use crate::search::{Findings, Hop};
@@ -69,8 +69,8 @@ struct Progress {
     mailbox: u64,
 }
 
-// The turns so far, and the graph behind them. Where memory was wanting once, no turn is taken any more, and the end
-// tells it.
+// The turns so far, and the graph after them. If memory ran out once, no turn is taken any more, and the end reports
+// it.
 #[derive(Drop)]
 struct Planner<'a> {
     picture: &'a Picture,
@@ -105,8 +105,8 @@ impl<'a> Planner<'a> {
         }
     }
 
-    // The turns that lead the right to x: with as few names as will do, or so that the names that are asked about are
-    // made first.
+    // The turns that lead the right to x. They use as few names as possible, or make the names that are asked about
+    // first.
     fn lead_to(self, alloc: Global, x: u64, is_sparing: bool) -> Planned {
         let mut plan = self;
         let path = plan.path(alloc, x);
@@ -131,7 +131,7 @@ impl<'a> Planner<'a> {
         }
     }
 
-    // Takes a turn, whatever comes of it.
+    // Takes a turn, whatever its outcome is.
     fn turn(&mut self, worker: u64, deed: Deed) {
         let turn = (worker, deed);
         if self.taken.is_ok() {
@@ -264,8 +264,8 @@ impl<'a> Planner<'a> {
         }
     }
 
-    // Who stands at an end of a walk takes the take right over each of its vertices in turn: from the first one on, or
-    // back from the last.
+    // The subject at an end of a walk takes the take right over each of its vertices in turn. It goes from the first
+    // vertex on, or back from the last.
     fn walk(&mut self, first: u64, walk: &[Hop], back: bool) {
         let mut via = first;
         for at in 0..walk.len() {
@@ -276,8 +276,8 @@ impl<'a> Planner<'a> {
         }
     }
 
-    // The first who acts, at the end of a stretch, takes the right, or else take over who has it, and puts it into a
-    // new mailbox.
+    // The first subject that acts, at the end of a stretch, takes the right, or take over its holder. Then it puts it
+    // into a new mailbox.
     fn begin(&mut self, stretch: &[Hop], first: u64) -> u64 {
         let goal = self.goal;
         self.walk(first, stretch, true);
@@ -326,7 +326,7 @@ impl<'a> Planner<'a> {
         self.make_for(q, p)
     }
 
-    // The same, where p walks down the steps forward, and q up the steps back.
+    // A new vertex over which p and q have take and grant. p walks down the steps forward, and q up the steps back.
     fn mailbox_between(&mut self, down: &[Hop], up: &[Hop], p: u64, q: u64) -> u64 {
         let a = vertex_of(down.last(), p);
         let b = vertex_of(up.first(), q);
@@ -405,7 +405,7 @@ impl<'a> Planner<'a> {
         spawned
     }
 
-    // The path that the search found to x, unless x holds the right; the one with whom it begins is the source.
+    // The path that the search found to x, unless x holds the right. The vertex with which it begins is the source.
     fn path(&mut self, alloc: Global, x: u64) -> Vec<Hop> {
         let mut path = Vec::new(alloc);
         if let Some(end) = end_of(self.picture, self.found, x)

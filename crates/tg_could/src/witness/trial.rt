@@ -1,4 +1,4 @@
-//! A graph that turns are tried on: a picture, and what came since.
+//! A graph on which turns are tried. It is a picture, and what came since.
 ghost use Rattle.std.specs.Prelude.{◌≡◌, ◌+◌, ◌<◌, true, ◌++◌, ◌∷◌, [], List, IfOk, IsOk, OnOk, IfSome, IsTrue};
 ghost use Rattle.tg_rights.specs.RightSet.{has};
 ghost use Rattle.tg_rights.specs.declared.Right.{Right as TheRight};
@@ -21,7 +21,7 @@ use std::alloc::{AllocError, Global};
 use tg_model::{Command, Deed, Edge, Making, Picture};
 use tg_rights::{Label, Right, Rights};
 
-/// What turns have changed in a picture's graph: the edges that were added, the subjects, and the vertices made.
+/// What turns have changed in a picture's graph. It is the edges that were added, the subjects, and the vertices made.
 #[derive(Drop)]
 pub(crate) struct Trial {
     pub(crate) rows: Chains,
@@ -55,7 +55,7 @@ fn rights_between(edge: Edge, x: u64, y: u64) -> Rights
     }
 }
 
-// The most vertices that may ever be made, where so many more may be; none past the last number.
+// The most vertices that may ever be made, if so many more may be made. There are none past the last number.
 fn limit_with(picture: &Picture, names: u64) -> Option<u64>
     ensures { IfSome result (λ limit. limit ≡ picture.now.limit + names) }
 {
@@ -284,7 +284,7 @@ impl Trial {
         Ok(false)
     }
 
-    // Makes a vertex over which the worker has these rights, where there is a name left, and of a subject where fewer
+    // Makes a vertex over which the worker has these rights, if there is a name left. A subject is made only if fewer
     // than 64 are active.
     fn make(&mut self, worker: u64, making: Making, label: Label) -> Result<bool, AllocError>
         ensures { IfOk result (λ made. IsTrue made → StandsAfterMaking self.old self.new worker making label) }

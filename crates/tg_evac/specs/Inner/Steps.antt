@@ -44,7 +44,7 @@ pub record MayNoteRoot (h : SpaceList) (starts words : List ℕ) (one : Root) : 
   pub forward : AreForwarded h starts words
   pub root : IsRootIn h one
 
--- one of these blocks of Old, behind as many other ones
+-- one of these blocks of Old, after as many other ones
 pub record MayNoteBlock (kept : ℕ) (blocks : BlockList) (block : ℕ) : Type 0 where
   pub few : kept + length blocks ≤ MOST_SPACE_BLOCKS
   pub inside : block < length blocks

@@ -1,4 +1,4 @@
--- What the calls on the vertices and the graph of an audit promise: each set of clauses stands once, and has a name.
+-- What the calls on the vertices and the graph of an audit promise: each set of clauses is once, and has a name.
 use Rattle.std.specs.Prelude.{◌≡◌, ◌<◌, ◌↔◌, IsTrue, map, nat_eq, true, ℕ, List, Option, Result, IfErr, IfOk, OnErr, OnOk}
 use Rattle.std.specs.Set.{is_member}
 use Rattle.tg_rights.specs.RightSet.{RightSet}
@@ -18,7 +18,7 @@ use Rattle.tg_journal.specs.Auditing.{StandsAt}
 use Rattle.tg_journal.specs.History.{IsLegalEntry}
 use Rattle.tg_journal.specs.Live.{AuditState, KeptGraph, IsSameGraph, HasVertexAt, IsGap, graph_kept, label_between, value_of}
 
--- This is answered, and the graph becomes the next one; where memory is wanting, it is as before but for what names store that
+-- This is answered, and the graph becomes the next one; where memory runs out, it is as before but for what names store that
 -- weren't made yet.
 pub record AnswersStep {E : Type 0} (old new : ProtectionGraph) (answer : Reply) (next : ProtectionGraph) (result : Result Reply E) : Type 0 where
   pub reply : IfOk result (λ reply. reply ≡ answer)
@@ -53,13 +53,13 @@ HasTargetsBelow vs from n = (y : ℕ) → HasEdge (label_between vs) from y → 
 abbrev pub AreTargetsOf : List Vertex → ℕ → Edges → Type 0
 AreTargetsOf vs from row = (y : ℕ) → IsTrue (is_member nat_eq (map (λ e. e.0) row) y) ↔ HasEdge (label_between vs) from y
 
--- the vertices have these labels and values then; where memory is wanting, they are as they were
+-- the vertices have these labels and values then; where memory runs out, they are as they were
 pub record Changes {A E : Type 0} (old new : List Vertex) (label : ℕ → ℕ → RightSet) (value : ℕ → Option Value) (result : Result A E) : Type 0 where
   pub labels : OnOk result (label_between new ≡ label)
   pub values : OnOk result ((y : ℕ) → value_of new y ≡ value y)
   pub err : OnErr result (new ≡ old)
 
--- the auditor stopped before this entry: memory was wanting, or it is bad
+-- the auditor stopped before this entry: memory ran out, or it is bad
 abbrev pub StopsBefore : AuditState → AuditState → Entry → AuditFault → Type 0
 StopsBefore old new e OutOfMemory = (new.at ≡ old.at) × ((g : ProtectionGraph) → StandsAt g old → StandsAt g new)
 StopsBefore old new e (BadEntry at) = (at ≡ old.at) × (new.at ≡ old.at) × (new.found_bad ≡ true) × ((g : ProtectionGraph) → StandsAt g old → ¬ IsLegalEntry g e)

@@ -33,7 +33,8 @@ impl LiveGraph {
         })
     }
 
-    /// What its subjects reach: a picture of it, and those that store something. Fails only when out of memory.
+    /// What its subjects reach. It is a picture of it, and the vertices that store something. Fails only when out of
+    /// memory.
     pub(crate) fn show(&self) -> Result<(Picture, Vec<ShownVertex>), AllocError>
         ensures lists { IfOk result (λ shown. AreListsOf (graph_kept self.now) shown.0 shown.1.items) }
         ensures names { IfOk result (λ shown. EachIndex shown.1.items (ComesAfter NamePrecedes shown.1.items)) }

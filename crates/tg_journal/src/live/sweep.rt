@@ -39,7 +39,7 @@ impl LiveGraph {
     }
 }
 
-// Adds those of these names that aren't there yet behind the others.
+// Adds those of these names that aren't there yet after the others.
 fn add_names(names: &mut IndexSet<u64>, more: &[u64]) -> Result<(), AllocError>
     ensures { OnOk result (names.new.keys ≡ insert_all nat_eq names.old.keys more.now) }
 {
@@ -49,7 +49,7 @@ fn add_names(names: &mut IndexSet<u64>, more: &[u64]) -> Result<(), AllocError>
     Ok(())
 }
 
-// Adds those targets of edges that aren't there yet behind the others.
+// Adds those targets of edges that aren't there yet after the others.
 fn add_targets(names: &mut IndexSet<u64>, row: &[(u64, Label)]) -> Result<(), AllocError>
     ensures { OnOk result (names.new.keys ≡ insert_all nat_eq names.old.keys (map (λ e. e.0) row.now)) }
 {

@@ -20,7 +20,7 @@ pub record MayDrawRoots (board : Board) (helper : Seated) : Type 0 where
   pub own : helper.table ≡ board.table
   pub allowed : IsTrue (can_claim_roots board.counts helper.done)
 
--- a chunk behind all that it has claimed
+-- a chunk after all that it has claimed
 pub record DrawsRoots (old new : Seated) (chunk : ℕ) : Type 0 where
   pub drawn : new ≡ record old { done = with_chunk old.done chunk }
   pub fresh : All (λ c. c < chunk) old.done.chunks
@@ -31,7 +31,7 @@ pub record MayDrawBlock (aged : Bool) (board : Board) (helper : Seated) : Type 0
   pub own : helper.table ≡ board.table
   pub allowed : IsTrue (can_claim_block aged helper.done)
 
--- a block behind all that it has claimed in the space
+-- a block after all that it has claimed in the space
 pub record DrawsBlock (aged : Bool) (old new : Seated) (number : ℕ) : Type 0 where
   pub drawn : new ≡ record old { done = with_claimed_block aged old.done number }
   pub fresh : All (λ b. b < number) (blocks_of aged old.done)

@@ -32,7 +32,7 @@ pub record MayStartAll {G : Type 0} (job : Job G) (others : List Seated) : Type 
   pub table : IsOpen job
   pub fresh : All (IsNew job.table.now) others
 
--- what the helper that stands for all has made at a table may be finished by a plan
+-- what the helper that represents all has made at a table may be finished by a plan
 pub record MayFinishAt (t : SpaceTable) (roots : List Root) (by : Plan) (board : Board) (made : Helped) : Type 0 where
   pub plan : MayFinish t roots by
   pub few : by.kept ≤ MOST_SPACE_BLOCKS

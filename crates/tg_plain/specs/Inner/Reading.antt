@@ -23,23 +23,23 @@ pub record IsNewReading (s : Reading) (number : ℕ) : Type 0 where
   pub count : s.count ≡ 0
   pub opening : s.opening ≡ true
 
--- the line is taken: whatever is read behind it is read behind it
+-- the line is taken: whatever is read after it is read after it
 abbrev pub PassesPlainLine : Reading → List ℕ → Line → Reading → List ℕ → Type 0
 PassesPlainLine s bytes l t rest =
     (lines : List Line) (end : Option ScriptFault) (left : List ℕ) → ReadsPlainFrom t rest lines end left → ReadsPlainFrom s bytes (l ∷ lines) end left
 
--- these lines of a script were taken: whatever is read behind them is read behind them
+-- these lines of a script were taken: whatever is read after them is read after them
 abbrev pub ReadsPlainFront : ℕ → List ℕ → List Line → Reading → List ℕ → Type 0
 ReadsPlainFront workers bytes front t rest =
     (lines : List Line) (end : Option ScriptFault) (left : List ℕ) → ReadsPlainFrom t rest lines end left → ReadsScript workers bytes (front ++ lines) end left
 
--- a line, the end of the input, or the first fault, and the bytes that are left behind it
+-- a line, the end of the input, or the first fault, and the bytes that are left after it
 abbrev pub NextPlainLine : Reading → List ℕ → Result (Option Line) ScriptFault → Reading → List ℕ → Type 0
 NextPlainLine s bytes (Ok (Some l)) t rest = PassesPlainLine s bytes l t rest
 NextPlainLine s bytes (Ok None) t rest = ReadsPlainFrom s bytes [] None rest
 NextPlainLine s bytes (Err f) t rest = ReadsPlainFrom s bytes [] (Some f) rest
 
--- the line may stand where it came, and now one more line was read
+-- the line may be where it came, and now one more line was read
 pub record FollowsReading (s : Reading) (l : Line) (t : Reading) : Type 0 where
   pub stands : MayStand s.workers s.opening l
   pub workers : t.workers ≡ s.workers
@@ -79,11 +79,11 @@ MayAddLine s (line.Plain x command) = Unit {0}
 MayAddLine s line.Full = Unit {0}
 MayAddLine s line.Minor = Unit {0}
 
--- it stands with its number behind the others that are no edge lines
+-- it is with its number after the others that are no edge lines
 abbrev pub AddsOther : Script → ℕ → Line → Script → Type 0
 AddsOther s number l t = (t.edges.items ≡ s.edges.items) × (t.lines.items ≡ s.lines.items ++ record { number = number; line = l } ∷ [])
 
--- the line stands behind the others of its kind
+-- the line is after the others of its kind
 abbrev pub AddsLine : Script → ℕ → Line → Script → Type 0
 AddsLine s number (line.Edge edge) t = (t.edges.items ≡ s.edges.items ++ edge ∷ []) × (t.lines.items ≡ s.lines.items)
 AddsLine s number (line.Create x label) t = AddsOther s number (line.Create x label) t

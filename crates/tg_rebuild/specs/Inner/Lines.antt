@@ -1,4 +1,4 @@
--- Where the vertices of a snapshot stand in its list, and where they are in a heap.
+-- Where the vertices of a snapshot are in its list, and where they are in a heap.
 use Rattle.std.specs.Prelude.{◌≡◌, ℕ, ◌<◌, List, length, slice_index_or}
 use Rattle.tg_word.specs.declared.Place.{Place}
 use Rattle.tg_space.specs.SpaceList.{SpaceList}

@@ -54,7 +54,7 @@ pub record IsHandedOn (p : Saved) (old new : HeapState) : Type 0 where
   pub subjects : subject_names new ≡ holder_among p.picture.subjects ∷ []
   pub kept : KeepsVertices old new
 
--- all subjects are active, the holder is one of them, and the vertex 0 is where it is told
+-- all subjects are active, the holder is one of them, and the vertex 0 is where it is reported
 pub record IsReady (p : Saved) (scaffold : Scaffold) (s : HeapState) : Type 0 where
   pub raised : IsRaised p s
   pub holder : IsActive s scaffold.holder

@@ -34,8 +34,8 @@ pub record Does (worker : ℕ) (deed : Deed) (old new : StoreState) (result : Re
   pub reason : IfErr result (LacksRoom new worker deed)
   pub stays : Stays old new
 
--- An entry was replayed. The result is whether it is legal on the graph that the store stood for: then the store has it behind the
--- others. Or there was no room for it, and no entry was added.
+-- An entry was replayed. The result is whether it is legal on the graph that the store represented: then the store has it after
+-- the others. Or there was no room for it, and no entry was added.
 pub record Replays (e : Entry) (old new : StoreState) (result : Result Bool RoomFault) : Type 0 where
   pub legal : IfOk result (λ legal. IsTrue legal ↔ IsLegalEntry (graph_of_store old) e)
   pub entered : IfOk result (λ legal. IsTrue legal → new.entries ≡ old.entries ++ e ∷ [])

@@ -1,5 +1,5 @@
 -- What the types themselves name as their laws: a number below the bound is that of its set, and the test of equality
--- decides it. A type may name only what stands in `specs/`, so these lemmas and what they rest on are not in `proofs/`.
+-- decides it. A type may name only what is in `specs/`, so these lemmas and what they rest on are not in `proofs/`.
 use Rattle.std.proofs.Common.{◌≡◌, ◌<◌, ◌*◌, ◌^◌, ◌==◌, ℕ, zero, suc, Bool, true, false, ◌&&◌, refl, arith, ap, ◌∙◌, sym}
 use Rattle.std.specs.Int.{bit_at}
 use Rattle.std.proofs.lemmas.Nat.Bits.{bit_at-lt}

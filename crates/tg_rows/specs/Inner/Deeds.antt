@@ -1,4 +1,4 @@
--- What the calls on one row are handed and what they promise: each set of clauses stands once, and has a name.
+-- What the calls on one row are handed and what they promise: each set of clauses is once, and has a name.
 use Rattle.std.specs.Prelude.{◌≡◌, ◌⊎◌, ℕ, ◌<◌, ◌≤◌, false, true, List, Option, Result, Err, IfErr, IfOk, IfSome, IsTrue, OnErr, OnOk, length}
 use Rattle.std.specs.List.{All}
 use Rattle.tg_rights.specs.RightSet.{RightSet, is_none_held}

@@ -22,7 +22,7 @@ abbrev pub CanFollowEach : Kind → List ℕ → List ℕ → List Place → Lis
 CanFollowEach kind starts forward notes rows =
     (name : ℕ) (row : IndexedRow) → lookup (nat_eq name) rows ≡ Some row → CanFollow kind starts forward notes row
 
--- The index at a place became that of the row's copy, unless the row was left behind; the others stayed.
+-- The index at a place became that of the row's copy, unless the row wasn't copied; the others stayed.
 pub record FollowsRowAt (kind : Kind) (starts forward : List ℕ) (notes : List Place) (rows later : List (ℕ × IndexedRow)) (at : ℕ) (fate : Fate) : Type 0 where
   pub row : IndexedRow
   pub followed : IndexedRow
@@ -34,7 +34,7 @@ pub record FollowsRowAt (kind : Kind) (starts forward : List ℕ) (notes : List 
   pub marked : fate ≢ Gone → IsMarked notes followed
   pub gone : fate ≡ Gone → IsLeftBehind kind starts forward row
 
--- the cells of a row may be followed behind the first ones, which lie in Old
+-- the cells of a row may be followed after the first ones, which lie in Old
 pub record CanFollowCells (kind : Kind) (starts forward : List ℕ) (first : ℕ) (cells : List Place) : Type 0 where
   pub within : first ≤ length cells
   pub old : All IsOldPlace (take first cells)

@@ -54,7 +54,7 @@ pub record IsReadyShort (h : SpaceList) (rows : Indexes) (from : Place) : Type 0
   pub none : lookup (nat_eq (name_at h from)) rows.entries ≡ None
   pub short : length (row_of h from) < SHORT
 
--- the row of the vertex with a name may be changed: its index stands at this place, and has room
+-- the row of the vertex with a name may be changed: its index is at this place, and has room
 pub record IsReadyAt (rows : Indexes) (name at : ℕ) : Type 0 where
   pub here : HasIndexAt rows.entries name at
   pub behind : rows.old_rows ≤ at

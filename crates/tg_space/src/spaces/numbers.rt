@@ -1,4 +1,4 @@
-//! The numbers of cells: those of Old come first, then those of Aged and of the nurseries, each space block by block.
+//! The numbers of cells. Those of Old come first, then those of Aged and of the nurseries, each space block by block.
 ghost use Rattle.std.specs.Prelude.{◌≡◌, ◌<◌, ◌≤◌, ◌*◌, ◌^◌, [], length, slice_index_or};
 ghost use Rattle.tg_block.specs.declared.TheConstants.{WORDS};
 ghost use Rattle.tg_word.specs.Word.{place_in};
@@ -20,8 +20,8 @@ impl Spaces {
         CELLS * self.blocks()
     }
 
-    /// The number of a cell: the cells of Old come first, then those of Aged and of the nurseries, each space block
-    /// by block. It takes the same short time in every heap.
+    /// The number of a cell. The cells of Old come first, then those of Aged and of the nurseries, each space block by
+    /// block. It takes the same short time in every heap.
     #[inline(always)]
     pub fn flat(&self, place: Place) -> u64
         requires { HasCell self.now.spaces place }
@@ -40,9 +40,9 @@ impl Spaces {
     {
         let space = place_of(word).space;
         if space == OLD {
-            // It tells what holds of all spaces (`IsSpaceTable`).
+            // It shows what holds of all spaces (`IsSpaceTable`).
             let _ = self.blocks();
-            // No cell stands before those of Old.
+            // No cell is before those of Old.
             return number_of(word);
         }
         CELLS * self.starts[space as usize] + number_of(word)
@@ -58,7 +58,7 @@ impl Spaces {
         self.unflat_from(number, OLD)
     }
 
-    // The same, where the cell is looked for from a space on, unless it comes before that.
+    // The place of the cell with a number, which is looked for from a space on, unless it comes before this space.
     #[inline(always)]
     fn unflat_from(&self, number: u64, near: u64) -> Place
         requires { number < length (cells_of self.now.spaces) }
@@ -77,7 +77,7 @@ impl Spaces {
         }
     }
 
-    // This space, unless the block that has so many before it comes before it too; then Old.
+    // This space, unless the block that has so many blocks before it comes before the space too. Then it is Old.
     #[inline(always)]
     fn first_searched(&self, block: u64, near: u64) -> u64
         ensures inside { result < length self.now.spaces }

@@ -1,4 +1,4 @@
--- How the code spells a text: its end first, so that each part is put in front of what stands behind it already.
+-- How the code spells a text: its end first, so that each part is put in front of what is after it already.
 use Rattle.std.specs.Prelude.{◌≡◌, ◌+◌, ◌≤◌, ℕ, List, length}
 
 -- in front of `end`, which lies in the bytes, there is room for so many

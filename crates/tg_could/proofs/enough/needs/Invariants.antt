@@ -4,7 +4,7 @@ use Rattle.tg_model.specs.Picture.{IsPictureOf}
 use Rattle.tg_could.specs.Turns.{NeverHolds}
 use Rattle.tg_could.proofs.enough.needs.Given as goal
 
--- with each before this place that isn't told, x never holds the right
+-- with each before this place that isn't reported, x never holds the right
 abbrev pub invariant-loop-host : goal.invariant-loop-host
 invariant-loop-host l =
     AllWithin

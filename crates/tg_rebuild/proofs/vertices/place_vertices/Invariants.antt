@@ -6,7 +6,7 @@ use Rattle.tg_snapshot.specs.declared.vertex.ShownVertex.{ShownVertex}
 use Rattle.tg_rebuild.specs.Inner.Raising.{AreMadeUpTo}
 use Rattle.tg_rebuild.proofs.vertices.place_vertices.Given as goal
 
--- the vertices before this place of the list are where it is told
+-- the vertices before this place of the list are where it is reported
 abbrev pub invariant-loop-at : goal.invariant-loop-at
 invariant-loop-at g l = record {
   made : AreMadeUpTo l.snapshot l.at l.heap;

@@ -29,7 +29,7 @@ note-requires-clause-still g c = λ sees retired gone.
     let out = c.requires.out (sees_as c.args.register.now.roll.signed c.args.session.now c.take_copy-state.new.self keeps sees) (gone_moved g.L.Round.start _ _ _ _ keeps.6 keeps.0 gone) in
     made_by_one c.make-answer.result c.in-Some.reply (sym c.in-Some.ensures) ((c.make-answer.ensures.refusals.no_such_worker (graph_of_store c.args.store.now) refl).1 (subst (λ (n : ℕ). ¬ IsSubject (graph_of_store c.args.store.now) n) (sym c.worker-worker.ensures) out))
 
--- what the store told of the worker is told of the session's
+-- what the store told of the worker is reported of the session's
 pub returns-clause-made : goal.returns-clause-made
 returns-clause-made g c =
     subst (λ (n : ℕ). IfOk c.make-answer.result (IsMadeFor (deed_making c.args.kind c.args.label c.args.draft) n c.args.label c.args.draft c.args.store.now c.make-answer.new.self)) c.worker-worker.ensures c.make-answer.ensures.made

@@ -4,7 +4,7 @@ use Rattle.tg_rights.specs.RightSet.{text_of}
 use Rattle.tg_text.proofs.NumberLaws.{short_decimal}
 use Rattle.tg_text.proofs.reply.spell_missing.Goals as goal
 
--- the texts one behind another are the text of what is missing
+-- the texts one after another are the text of what is missing
 joined : (a b r : List ℕ) → a ++ 45 ∷ 62 ∷ (b ++ 32 ∷ r) ≡ (((a ++ 45 ∷ 62 ∷ []) ++ b) ++ 32 ∷ []) ++ r
 joined a b r =
     sym (append_assoc ((a ++ 45 ∷ 62 ∷ []) ++ b) (32 ∷ []) r ∙ append_assoc (a ++ 45 ∷ 62 ∷ []) b (32 ∷ r) ∙ append_assoc a (45 ∷ 62 ∷ []) (b ++ 32 ∷ r))

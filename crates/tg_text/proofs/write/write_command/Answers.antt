@@ -11,7 +11,7 @@ use Rattle.tg_text.proofs.WriteLaws.{words_join}
 use Rattle.tg_text.proofs.SinkLaws.{writes_then, writes_cut_first}
 use Rattle.tg_text.proofs.write.write_command.Goals as goal
 
--- the word, and what stands behind it, of the parts that were told
+-- the word, and what is after it, of the parts that were told
 same_text : (x : ℕ) (word : List ℕ) (told parts : Verb × Arguments) → told ≡ parts → word ≡ word_of told.0
     → (decimal x ++ 32 ∷ word) ++ words_behind (words_of_arguments told.1) ≡ join_with_byte 32 (decimal x ∷ word_of parts.0 ∷ words_of_arguments parts.1)
 same_text x word told parts same is =

@@ -54,7 +54,7 @@ is_in_old-straight-requires g c =
           all_in_old h c.requires.walk.traced.0 won traced (win_at won n) (Contains-get_or won n (win_at [] 0) c.requires.next);
     }
 
--- what stands behind the last cell has no words
+-- what is after the last cell has no words
 pointers_numbered : (h : SpaceList) → HavePointers h → (n : ℕ) → All (IsPointer h) (pointers_of (cell_numbered h n))
 pointers_numbered h are n = ⊎_elim (λ low. are.numbered n low)
     (λ high. subst (λ (ws : List ℕ). All (IsPointer h) (pointers_of ws)) (sym (get_or_past (cells_of h) n [] high)) (All-nil (IsPointer h)))

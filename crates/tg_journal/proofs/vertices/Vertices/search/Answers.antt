@@ -14,7 +14,7 @@ returns-in-Some c =
     let by_key = facts.position (λ v. v.name) (answers_always _ _ _ (λ f a r g called. search rules)) in
     rw (← c.self.view_is, ← c.deref-in-Some.ensures.value) (searched c.deref-in-Some.result.now (rw c.deref-in-Some.ensures.value c.self.invariant) c.args.name c.binary_search_by_key.result facts.bound by_key)
 
--- behind the last, or there is none
+-- after the last, or there is none
 pub returns-in_default : goal.returns-in_default
 returns-in_default c =
     let vs = c.self.inside.items.items in

@@ -14,7 +14,7 @@ use Rattle.tg_model.proofs.PlainLaws.{plain, made, made_plain}
 use Rattle.tg_model.proofs.graph.Graph.make.Goals as goal
 use Rattle.tg_model.proofs.graph.Graph.make.Goals.{After-enlist}
 
--- what stands in the graph where all calls did their work
+-- what is in the graph where all calls did their work
 parts_are : (c : After-enlist) → plain c.enlist.new.subjects.items c.self.inside.max_vertices c.push.new.self.items c.push-2.new.self.items ≡ plain (subjects_making c.args.making c.self.inside.subjects.items c.made-name.result) c.self.inside.max_vertices (set c.self.inside.rows.items c.args.worker c.add.new.self ++ [] ∷ []) (c.self.inside.values.items ++ record { law = c.args.law; state = c.args.state.now } ∷ [])
 parts_are c =
     ap (λ (w : List ℕ). plain w c.self.inside.max_vertices c.push.new.self.items c.push-2.new.self.items) (c.enlist.ensures ∙ ap (λ (w : List ℕ). subjects_making c.args.making w c.made-name.result) c.try_reserve.ensures.items)

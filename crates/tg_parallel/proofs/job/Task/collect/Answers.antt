@@ -1,4 +1,4 @@
--- Want of room for one helper is want of room for several.
+-- Lack of room for one helper is lack of room for several.
 use Rattle.std.proofs.Common.{◌≡◌, ℕ, ◌≤◌, arith, refl}
 use Rattle.tg_space.specs.declared.room_fault.RoomFault.{RoomFault}
 use Rattle.tg_space.specs.declared.room_fault.RoomFault.TheVariants as no_room

@@ -1,4 +1,4 @@
--- What an end leaves behind the lock.
+-- What an end leaves in the lock.
 use Rattle.std.proofs.Common.{◌≡◌, ◌+◌, ◌-◌, ◌∙◌, ◌++◌, ℕ, List, Err, Ok, ap, drop, length, refl, subst, sym}
 use Rattle.std.proofs.lemmas.Result.{err_from_is_err_and}
 use Rattle.tg_model.specs.Graph.{listing_of}

@@ -1,4 +1,4 @@
--- What a hand leaves behind the lock, and what its session's receipts say of it.
+-- What a hand leaves in the lock, and what its session's receipts say of it.
 use Rattle.std.proofs.Common.{◌≡◌, ◌∙◌, ◌++◌, ◌+◌, ◌<◌, ◌^◌, ℕ, List, Err, Ok, ap, arith, length, length-append, refl, subst, sym}
 use Rattle.std.proofs.lemmas.Result.{err_from_is_err_and}
 use Rattle.tg_model.specs.Graph.{IsSubject}

@@ -1,4 +1,4 @@
--- What a leave leaves behind the lock, and what its session knows then.
+-- What a leave leaves in the lock, and what its session knows then.
 use Rattle.std.proofs.Common.{◌≡◌, ◌∙◌, ◌+◌, ◌<◌, ◌≤◌, ◌^◌, ◌++◌, ◌∷◌, [], ℕ, List, map, length, Err, Ok, ap, arith, refl, subst, sym}
 use Rattle.std.proofs.lemmas.Result.{err_from_is_err_and}
 use Rattle.tg_rights.specs.RightSet.{RightSet}

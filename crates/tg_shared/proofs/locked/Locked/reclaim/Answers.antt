@@ -20,7 +20,7 @@ use Rattle.tg_shared.proofs.Orders.{may_close_shuffled}
 use Rattle.tg_shared.proofs.Sharing.{as_counted, held_at_most, shared_out}
 use Rattle.tg_shared.proofs.locked.Locked.reclaim.Goals as goal
 
--- what a journal has handed out is not behind the place from which on it is looked at
+-- what a journal has handed out is not after the place from which on it is looked at
 held_behind : (start out since since_out journal : ℕ) → since ≡ max start out → out ≡ since_out → journal ≡ since_out → journal ≤ since
 held_behind start out since since_out journal is there here = let most : out ≤ max start out = le-max_right start out in omega arith
 
@@ -29,7 +29,7 @@ closes : (es fs : List Entry) (m n : ℕ) (ss ts : List SessionState) → es ≡
 closes es fs m n ss ts entries start sessions may =
     subst (λ (x : List Entry). MayClose x n ts) entries (subst (λ (x : ℕ). MayClose es x ts) start (subst (λ (x : List SessionState). MayClose es m x) sessions may))
 
--- who gave up their parts stand for no more sessions than were made, and where for as many, all parts are there
+-- who gave up their parts represent no more sessions than were made, and where for as many, all parts are there
 given_back : (made rest parts whole given : ℕ) → made + rest ≡ parts → whole ≡ rest + given → (whole ≤ parts → given ≤ made) × (given ≡ made → whole ≡ parts)
 given_back made rest parts whole given cut held = ((λ fits. omega arith), (λ as_many. omega arith))
 

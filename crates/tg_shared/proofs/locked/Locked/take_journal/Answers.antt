@@ -1,4 +1,4 @@
--- What was handed out is what the store held, and what is behind the lock is as it was.
+-- What was handed out is what the store held, and what is in the lock is as it was.
 use Rattle.std.proofs.Common.{◌≡◌, ◌≤◌, ◌+◌, ◌-◌, ◌<◌, ◌^◌, ◌∙◌, ℕ, List, ap, arith, length, refl, subst, sym}
 use Rattle.tg_graph.specs.Heap.{HeapState}
 use Rattle.tg_journal.specs.declared.entry.Entry.{Entry}

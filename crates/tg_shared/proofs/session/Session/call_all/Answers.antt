@@ -1,4 +1,4 @@
--- The commands were taken behind the lock, and the session has seen their entries.
+-- The commands were taken in the lock, and the session has seen their entries.
 use Rattle.std.proofs.Common.{◌≡◌, ◌∙◌, ◌<◌, ◌≤◌, length, arith, rules, refl, subst, sym}
 use Rattle.std.proofs.lemmas.Result.{IfErr-weaker, on_ok_weaker}
 use Rattle.tg_shared.specs.Sessions.{HoldsWhenFree, LockedState, SessionState}

@@ -1,4 +1,4 @@
--- The hand was done behind the lock, and the session has seen its entries.
+-- The hand was done in the lock, and the session has seen its entries.
 use Rattle.std.proofs.Common.{◌≡◌, ◌∙◌, ◌≤◌, Result, Err, ap, subst, sym}
 use Rattle.std.specs.Prelude.{IfErr, IfOk}
 use Rattle.std.proofs.lemmas.Result.{err_from_is_err_and}

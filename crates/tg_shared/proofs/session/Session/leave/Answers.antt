@@ -1,4 +1,4 @@
--- The worker has left a store that may have been behind the lock.
+-- The worker has left a store that may have been in the lock.
 use Rattle.std.proofs.Common.{◌∙◌, refl, subst}
 use Rattle.std.proofs.lemmas.Result.{on_err_weaker, on_ok_weaker}
 use Rattle.tg_store.specs.Store.{IsFaithful, graph_of_store}

@@ -1,4 +1,4 @@
--- What came of a hand is noted by a session that hadn't retired.
+-- The outcome of a hand is noted by a session that hadn't retired.
 use Rattle.std.proofs.Common.{◌≡◌, ◌∙◌, ◌+◌, ◌<◌, ◌≤◌, ◌^◌, ◌∷◌, [], false, true, ℕ, List, length, add-zero, ap, arith, refl, subst, sym}
 use Rattle.tg_journal.specs.declared.entry.Entry.{Entry}
 use Rattle.tg_passes.specs.declared.signed.Signed.{Signed}

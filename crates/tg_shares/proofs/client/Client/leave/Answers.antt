@@ -1,4 +1,4 @@
--- The worker has left a store that may have been behind the lock.
+-- The worker has left a store that may have been in the lock.
 use Rattle.std.proofs.Common.{◌≡◌, ◌∙◌, ◌+◌, refl, subst}
 use Rattle.std.specs.Prelude.{IfOk}
 use Rattle.tg_store.specs.declared.fault.ApplyFault.TheVariants.{NoSuchWorker}

@@ -1,4 +1,4 @@
--- The worker has left a store that may have been behind the lock, and what it left may have been there too.
+-- The worker has left a store that may have been in the lock, and what it left may have been there too.
 use Rattle.std.proofs.Common.{◌∙◌, refl, sym}
 use Rattle.tg_store.specs.Store.{graph_of_store}
 use Rattle.tg_shared.specs.Sessions.{HasEnded, HoldsWhenFree, LockedState}

@@ -17,6 +17,6 @@ returns c = λ h before pointers.
     c.image_word.ensures.below c.image_word.ensures.above c.image_word-2.ensures.below c.image_word-2.ensures.above c.image_word-3.ensures.below c.image_word-3.ensures.above c.image_word-4.ensures.below c.image_word-4.ensures.above c.image_word-5.ensures.below c.image_word-5.ensures.above c.image_word-6.ensures.below c.image_word-6.ensures.above c.image_word-7.ensures.below c.image_word-7.ensures.above
     ∙ ap (λ ws. take (first_pointer (get_or c.args.words 0 0)) c.args.words ++ ws) (renamed_are from h starts to before (pointers_of c.args.words) pointers)
 
--- The search doesn't find it behind six words.
+-- The search doesn't find it after six words.
 pub image_word-requires-7-clause-named : goal.image_word-requires-7-clause-named
 image_word-requires-7-clause-named c = rw c.first_pointer-first.ensures.word c.requires

@@ -5,7 +5,7 @@ use Rattle.tg_could.specs.Turns.{AreTurns, after}
 use Rattle.tg_could.specs.Inner.Trial.{Stands}
 use Rattle.tg_could.proofs.witness.trial.Trial.take_turns.Given as goal
 
--- the turns before this place are those of who acts, and the trial stands for the graph behind them
+-- the turns before this place are those of who acts, and the trial represents the graph after them
 abbrev pub invariant-loop-turn : goal.invariant-loop-turn
 invariant-loop-turn l =
     (g : ProtectionGraph) → Stands l.edges l.fn.self g →
