@@ -6,23 +6,23 @@ An amount is allowed where it is
   - the length of what is there (LENGTHS), or one of the tree's own sizes (SIZES);
   - a parameter: then each call of the function is asked for an amount there, in all crates;
   - a local: then it is what the local is bound to;
-  - a sum, a difference, a quotient, the least or the greatest of these, or one of two branches.
-All else is a fault: a product, a shift, a field, what a call answers, what a pattern binds. It may stand in a named
-place (NAMED), word by word as it stands there. An amount is asked for
+- a sum, a difference, a quotient, the least or the greatest of these, or one of two branches. All else is a fault:
+    a product, a shift, a field, what a call answers, what a pattern binds. It may be in a named place (NAMED), word
+    by word as it is there. An amount is asked for
   - by a growth of the kit that takes one (AMOUNT_AT), by `vec![in alloc; value; amount]`, and by an array's type or
     value;
   - by the end of a range, since a loop or a chain over it may grow something each time;
   - by a `while` that compares by `<`: what it is compared with, where something grows in it and no `len()` does.
     Another `while` and a `loop` in which something grows stand in a named place.
 So that nothing is multiplied, in a loop a growth asks for one, and a function in which something grows by more than one
-is called only where that stands in allocation/repeated: there it takes what is its own of what the loop goes through,
-an entry's text or a row's edges, or gives back what it took. No loop in which something grows stands in another one; a
-closure with a parameter counts as a loop. No list is asked for room by its own length. What makes elements of nothing
-(MAKERS) isn't called, no type is an iterator or an allocator, no function that takes an amount is handed on as a value,
-and one in which something grows doesn't call itself.
+is called only where that is in allocation/repeated. There it takes what is its own of what the loop goes through, an
+entry's text or a row's edges, or gives back what it took. No loop in which something grows is in another one; a closure
+with a parameter counts as a loop. No list is asked for room by its own length. What makes elements of nothing (MAKERS)
+isn't called, no type is an iterator or an allocator, no function that takes an amount is handed on as a value, and one
+in which something grows doesn't call itself.
 
 Which function a call is of is told by its words (growths.py): where these leave several, each of them is held. What
-remains: how often a loop that stands in NAMED goes round, and what a call in allocation/repeated takes each time, no
+remains: how often a loop that is in NAMED goes round, and what a call in allocation/repeated takes each time, no
 rule says."""
 import re
 from copy import copy
@@ -34,7 +34,7 @@ from .growths import AMOUNT_AT, BY_MORE, BY_ONE, CONSTANT, KIT_NUMBERS, CallsOfT
 from .places import NAMED, Place
 from .sources import Source, Span, arms, compact, level
 
-# A number of at most so many stands for itself: a buffer of 64 KiB, and no more than a run can have.
+# A number of at most so many represents itself: a buffer of 64 KiB, and no more than a run can have.
 MOST = 1 << 16
 
 # What makes elements of nothing, and what is asked for otherwise.
@@ -107,7 +107,7 @@ class Amounts:
                     self.hold_argument(call, function, index)
 
     def fault(self, function: Function, start: int, end: int, what: str) -> None:
-        """Notes a fault, unless its words stand in a named place."""
+        """Notes a fault, unless its words are in a named place."""
         said = compact(function.source.words[start:end])
         place = (function.source.place, function.name, said)
         if place in NAMED:
@@ -116,7 +116,7 @@ class Amounts:
             self.found.append(f"crates/{place[0]}:{function.source.lines[start]}: {what} {said}, in {place[1]}")
 
     def is_named(self, function: Function, start: int, end: int) -> bool:
-        """Whether these words stand in a named place."""
+        """Whether these words are in a named place."""
         place = (function.source.place, function.name, compact(function.source.words[start:end]))
         self.met |= {place} & set(NAMED)
         return place in NAMED
@@ -156,7 +156,7 @@ class Amounts:
             start += start < end and words[start] == "else"
 
     def hold_parts(self, function: Function, start: int, end: int, last: Operator, seen: tuple[str, ...]) -> None:
-        """Holds what stands at an operator: of a difference and of a quotient what stands before it."""
+        """Holds what is at an operator: of a difference and of a quotient what is before it."""
         at, which, width = last
         if which in ("*", "<<"):
             self.fault(function, start, end, "a product is asked for:")
@@ -213,7 +213,7 @@ class Amounts:
             self.fault(function, start, end, "what a call answers is asked for:")
 
     def answer(self, function: Function, opened: int) -> tuple[Function, int, int] | None:
-        """The expression that a call answers, where its function is one expression; its parameters are held as this
+        """The expression that a call answers, where its function is one expression. Its parameters are held as this
         call's arguments."""
         named = [callee for call in calls_in(function) if call.at == opened for callee in self.tree.callees(call)]
         found = [(one, *part) for one in named for part in parts(one.source, one.start + 1, one.end, ";")]

@@ -10,7 +10,7 @@ RANGES = {"Range", "RangeInclusive", "RangeFrom", "Iterator", "IntoIterator", "i
 
 KEYWORDS = {"if", "while", "match", "return", "in", "for", "let", "move", "as", "else", "fn", "break", "loop"}
 KEYWORDS |= {"Some", "Ok", "Err"}
-# An operator: where it stands, which it is, and how many words it has.
+# An operator: where it is, which it is, and how many words it has.
 Operator = tuple[int, str, int]
 # The operators, those that are done last before those that are done first.
 RANKS = (("|",), ("^",), ("&",), ("<<", ">>"), ("+", "-"), ("*", "/", "%"))
@@ -32,13 +32,13 @@ class Function:
 
     @property
     def crate(self) -> str:
-        """The crate in which it stands."""
+        """The crate in which it is."""
         return self.source.crate
 
 
 @dataclass(eq=False)
 class Call:
-    """A call: what stands before its name ('.', a type, a module or nothing), and where each argument begins and
+    """A call: what is before its name ('.', a type, a module or nothing), and where each argument begins and
     ends."""
 
     function: Function
@@ -119,7 +119,7 @@ def calls_in(function: Function) -> Iterator[Call]:
 
 
 def before(words: list[str], name: int) -> str:
-    """What stands before the name of a call: '.', or the last name of its path."""
+    """What is before the name of a call: '.', or the last name of its path."""
     if words[name - 1] != "::":
         return "." if words[name - 1] == "." else ""
     at = name - 2
@@ -129,7 +129,7 @@ def before(words: list[str], name: int) -> str:
 
 
 def trimmed(source: Source, start: int, end: int) -> Span:
-    """An expression without what stands around it: brackets, `as`, `?`, `&`, `*`."""
+    """An expression without what is around it: brackets, `as`, `?`, `&`, `*`."""
     words = source.words
     while end - start > 1:
         if words[start] == "(" and source.shut[start] == end - 1 and not is_list(source, start):
@@ -198,12 +198,12 @@ def bound_to(function: Function, name: str) -> tuple[list[Span], bool]:
 
 
 def end_of(source: Source, at: int, end: int) -> int:
-    """Where the statement ends that stands here."""
+    """Where the statement ends that is here."""
     return next((i for i in level(source, at, end) if source.words[i] == ";"), end)
 
 
 def for_loop(function: Function, at: int) -> Span | None:
-    """Where the `in` of a loop stands, and where its body is opened; nothing, where `for` begins no loop."""
+    """Where the `in` of a loop is, and where its body is opened, or nothing where `for` begins no loop."""
     words, source = function.source.words, function.source
     place = next((i for i in level(source, at, function.end) if words[i] in ("in", "{", ";")), None)
     if place is None or words[place] != "in":
@@ -234,7 +234,7 @@ def closure(words: list[str], at: int) -> list[str]:
 
 
 def pattern_of(function: Function, arrow: int) -> list[str]:
-    """The words of the pattern before an arrow that stand in brackets, where names are bound."""
+    """The words of the pattern before an arrow that are in brackets, where names are bound."""
     words, at, opens = function.source.words, arrow - 1, {shut: start for start, shut in function.source.shut.items()}
     said = []
     while words[at] not in (",", "{", ";") and words[at] != "=>":
@@ -254,5 +254,5 @@ def lists_made(function: Function) -> Iterator[Span]:
 
 
 def words_of(function: Function) -> Iterator[tuple[int, str]]:
-    """Where each word of a body stands, and the word."""
+    """Where each word of a body is, and the word."""
     return ((at, function.source.words[at]) for at in range(function.start, function.end))

@@ -5,7 +5,7 @@ from copy import copy
 from .calls import Call, Function, calls_in, end_of, functions_of, lists_made, loops_in, operator, trimmed, words_of
 from .sources import Source, level
 
-# The calls of the kit that take an amount, and where it stands: of functions of a type, and of methods.
+# The calls of the kit that take an amount, and where it is: of functions of a type, and of methods.
 MADE_WITH = {"with_capacity": 1, "with_capacity_and_hasher": 1, "from_elem": 2, "vacant": 2}
 RESERVED_BY = ("reserve", "reserve_exact", "try_reserve", "try_reserve_exact")
 GROWN_BY = {name: 0 for name in (*RESERVED_BY, "resize", "resize_with", "try_resize_with")}
@@ -24,11 +24,11 @@ NUMBER = re.compile(r"(0x[0-9a-fA-F_]+|0b[01_]+|[0-9][0-9_]*?)(?:_?[iu](?:8|16|3
 
 
 class CallsOfTree:
-    """The functions of a tree's sources and their calls. `below` has the crates on which each crate stands.
+    """The functions of a tree's sources and their calls. `below` has the crates on which each crate depends.
 
     Functions are told apart by their names, the types before them, how many arguments there are and which crates a
-    crate stands on: where that leaves several, a call may be any of these. A method with a name of the kit's is taken
-    for the kit's."""
+    crate depends on: where that leaves several, a call may be any of these. A method with a name of the kit's is
+    taken for the kit's."""
 
     def __init__(self, below: dict[str, set[str]]):
         self.below = below
@@ -179,7 +179,7 @@ def is_growth(call: Call) -> bool:
 
 
 def is_repeated(call: Call) -> bool:
-    """Whether a call stands in a loop."""
+    """Whether a call is in a loop."""
     return any(opened < call.at < shut for _, opened, shut in loops_in(call.function))
 
 

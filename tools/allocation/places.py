@@ -1,7 +1,7 @@
-"""The named places: where a text may stand that the rules of refusals.py and amounts.py don't allow, word by word as it
+"""The named places: where a text may be that the rules of refusals.py and amounts.py don't allow, word by word as it
 stands there, and why. What is named and isn't there is a fault, too."""
 
-# A file, a function in it, and words that stand there.
+# A file, a function in it, and words that are there.
 Place = tuple[str, str, str]
 
 # What is handed back alone, in one file.
@@ -80,6 +80,10 @@ PLACES = {
         ["match written Ok(()) Err(WriteFailed)"],
         "what was written lies in memory, and writing fails for want of it alone",
     ),
+    ("tg_entries/src/sum.rt", "bytes_named"): (
+        ["match written Ok(()) Err(WriteFailed)"],
+        "what was written lies in memory, and writing fails for want of it alone",
+    ),
     ("tg_c/src/text.rt", "bytes_named"): (
         ["match written Ok(()) Err(WriteFailed)"],
         "what was written lies in memory, and writing fails for want of it alone",
@@ -108,7 +112,7 @@ PINNED = {
     ),
 }
 
-# A refused growth that is noted and told later, and what may be noted beside one: it fails for want of memory alone, or
+# A refused growth that is noted and told later, and what may be noted beside one. It fails for lack of memory alone, or
 # was noted there.
 NOTED = {"is_short"}
 NOTED_OTHERWISE = {
@@ -118,7 +122,7 @@ NOTED_OTHERWISE = {
     ("tgdot/src/steps.rt", "shot.is_short()||frame.is_short()"),
 }
 
-# What is asked for and isn't of the forms of amounts.py: the file and the function, the words, and why they may stand.
+# What is asked for and isn't of the forms of amounts.py: the file and the function, the words, and why they may be.
 NAMED = {
     ("tg_rows/src/indexed_row.rt", "reserve", "self.old_cells"):
         "how many of the row's cells lie in Old: no more than it has",

@@ -1,7 +1,7 @@
 """The texts by which tools/check_allocation tries itself: each wrong one has to be found where it is, and no right
 one."""
 
-# What is put behind a source.
+# What is put after a source.
 WRONG = [
     "fn planted() -> Result<(), AllocError> { Err(AllocError) }",
     "fn planted() -> Result<(), AllocError> { let refused = AllocError; Err(refused) }",
@@ -76,7 +76,7 @@ FINE = [
     ),
 ]
 
-# Texts of sources that are changed: the file, what stands there, and what is put there.
+# Texts of sources that are changed: the file, what is there, and what is put there.
 CHANGED = [
     ("tg_journal/src/journal.rt", "u64::MAX - self.len() < more as u64", "self.len() > 1 << 40"),
     (

@@ -5,26 +5,26 @@ from collections.abc import Iterator
 from .places import HANDED_ALONE, NOTED, NOTED_OTHERWISE, PINNED, PLACES
 from .sources import Source, Span, arms, compact, function, head, level, owner_of, past_angles, start_of_path
 
-# The errors of the kit; variants; refusals that hand something back for want of memory alone.
+# The errors of the kit; variants; refusals that hand something back for lack of memory alone.
 KIT = {"AllocError", "AllocFailed"}
 VARIANTS = {"OutOfMemory", "NoThread"}
 OF_TYPES = {"Memory": {"Refusal"}, "Threads": {"Refusal"}, "Failed": {"Put", "Next"}}
 HANDED_BACK = {"DraftRefused", "InsertRefused", "SharedRefused"}
 TEXTS = {"out of memory": "OutOfMemory", "no thread": "NoThread"}
 
-# The calls of the kit that fail for want of memory alone.
+# The calls of the kit that fail for lack of memory alone.
 GROWTHS = {"Vec::with_capacity", "BufReader::with_capacity", "BufWriter::with_capacity"}
 GROWTHS |= {".push", ".push_str", ".insert", ".reserve", ".extend_from_slice", ".split_off", ".collect"}
 
 
 def names_want(source: Source, at: int) -> bool:
-    """Whether a variant of a want stands here, with the type before it or imported."""
+    """Whether a variant of a want is here, with the type before it or imported."""
     word = source.words[at]
     return word in VARIANTS or source.words[at - 1] == "::" and source.words[at - 2] in OF_TYPES.get(word, set())
 
 
 def is_matched(source: Source, at: int) -> bool:
-    """Whether it stands in a pattern: of an arm, of a `let`, of a `matches!`."""
+    """Whether it is in a pattern: of an arm, of a `let`, of a `matches!`."""
     for start in source.around(at):
         if source.words[start] == "{" and "match" in head(source, start):
             arm = next((arm for arm in arms(source, start) if arm[0] <= at < arm[2]), None)
@@ -39,7 +39,7 @@ def is_matched(source: Source, at: int) -> bool:
 
 
 def is_let(source: Source, at: int) -> bool:
-    """Whether it stands in the pattern of a `let`."""
+    """Whether it is in the pattern of a `let`."""
     opens = {shut: start for start, shut in source.shut.items()}
     while at > 0:
         at = opens.get(at - 1, at - 1)
@@ -59,7 +59,7 @@ def is_compared(source: Source, at: int) -> bool:
 
 
 def is_handed_on(source: Source, at: int) -> bool:
-    """Whether it stands in an arm for a want."""
+    """Whether it is in an arm for a want."""
     for start in source.around(at):
         if source.words[start] == "{" and "match" in head(source, start) and (arm := arm_around(source, start, at)):
             wants = sum(names_want(source, i) for i in range(*arm))
@@ -69,13 +69,13 @@ def is_handed_on(source: Source, at: int) -> bool:
 
 
 def arm_around(source: Source, start: int, at: int) -> Span | None:
-    """Where the pattern of an arm begins and its `=>` stands, of those of a match opened here, behind which a place
-    stands; or None."""
+    """Where the pattern of an arm begins and its `=>` is, of those of a match opened here, after which a place is,
+    or None."""
     return next(((first, arrow) for first, arrow, last in arms(source, start) if arrow < at < last), None)
 
 
 def is_converted(source: Source, at: int) -> bool:
-    """Whether it stands in a `From` of what is refused for want of memory alone."""
+    """Whether it is in a `From` of what is refused for lack of memory alone."""
     for start in source.around(at):
         said = head(source, start)
         if "impl" in said and "From" in said:
@@ -84,7 +84,7 @@ def is_converted(source: Source, at: int) -> bool:
 
 
 class Calls:
-    """Which calls fail for want of memory or of a thread alone, by what their signatures say."""
+    """Which calls fail for lack of memory or of a thread alone, by what their signatures say."""
 
     def __init__(self, sources: list[Source]):
         # by the name of a function and its crate: the errors that it answers
@@ -152,7 +152,7 @@ def call_before(source: Source, start: int, end: int) -> str:
 
 
 def refused_call(source: Source, at: int) -> str:
-    """The call in whose error arm a place stands, or nothing: behind `else` of a `let`, of `is_err()`, or in an arm
+    """The call in whose error arm a place is, or nothing: after `else` of a `let`, of `is_err()`, or in an arm
     `Err(..)`."""
     words = source.words
     for start in source.around(at):
@@ -172,8 +172,8 @@ def refused_call(source: Source, at: int) -> str:
 
 
 def matched_call(source: Source, start: int, at: int) -> str | None:
-    """The call of the match whose arms are opened here, where a place stands in the arm of any of its errors; nothing,
-    '' where it stands in another arm, and None where in none."""
+    """The call of the match whose arms are opened here, where a place is in the arm of any of its errors; nothing, ''
+    where it is in another arm, and None where in none."""
     words = source.words
     arm = arm_around(source, start, at)
     if arm is None:
@@ -187,7 +187,7 @@ def matched_call(source: Source, start: int, at: int) -> str | None:
 
 
 def opened_behind(source: Source, at: int) -> int:
-    """Where the block is opened of the word that stands here."""
+    """Where the block is opened of the word that is here."""
     return next(i for i in level(source, at + 1, len(source.words)) if source.words[i] == "{")
 
 
@@ -209,7 +209,7 @@ def is_declared(source: Source, at: int) -> bool:
 
 
 def is_type(source: Source, at: int) -> bool:
-    """Whether the kit's error stands here as a type, or as the path of its own `from`."""
+    """Whether the kit's error is here as a type, or as the path of its own `from`."""
     words = source.words
     before, behind = words[at - 1], words[at + 1]
     if words[at] == "AllocFailed" and behind == "<":
@@ -256,7 +256,7 @@ def named_otherwise(source: Source) -> Iterator[tuple[int, str]]:
 
 
 def condition(source: Source, at: int) -> str:
-    """The words under which a place stands: up to the brace of its block; of a `let .. else` its call; of a `match` its
+    """The words under which a place is: up to the brace of its block; of a `let .. else` its call; of a `match` its
     call and the patterns up to that of the arm."""
     words = source.words
     opened = next(start for start in source.around(at) if words[start] == "{" and words[start - 1] != "=>")
@@ -302,7 +302,7 @@ def pinned(source: Source) -> Iterator[str]:
 
 
 def faults(source: Source, calls: Calls) -> Iterator[str]:
-    """What is wrong in a source, and the named places in which it writes a want under the words that stand there."""
+    """What is wrong in a source, and the named places in which it writes a want under the words that are there."""
     left = {place: list(conditions) for place, (conditions, _) in PLACES.items() if place[0] == source.place}
     for at, what in [*written(source, calls), *named_otherwise(source), *noted(source, calls)]:
         place = (source.place, function(source, at))

@@ -6,14 +6,14 @@ from collections.abc import Iterable, Iterator
 TOKEN = re.compile(r"""\s+|//[^\n]*|"(?:\\.|[^"\\])*"|'(?:\\.[^']*|[^'\\])'|\w+|::|=>|->|==|!=|\.\.=?|.""", re.S)
 OPEN, SHUT = "([{", ")]}"
 
-# A token, and the line that it stands in.
+# A token, and the line that it is in.
 Token = tuple[str, int]
 # Where something begins, and where it ends.
 Span = tuple[int, int]
 
 
 class Source:
-    """The tokens of a file that are code: without comments, contracts and what stands for proofs alone."""
+    """The tokens of a file that are code: without comments, contracts and what represents proofs alone."""
 
     def __init__(self, place: str, text: str):
         self.place, self.crate = place, place.split("/")[0]
@@ -58,7 +58,7 @@ class Source:
 
 
 def is_clause(past: list[Token], at: int) -> bool:
-    """Whether a contract's clause stands here: a name at most, then braces."""
+    """Whether a contract's clause is here: a name at most, then braces."""
     rest = [token for token, _ in past[at + 1:at + 4]]
     rest = rest[1:] if rest[:1] == ["*"] else rest
     return rest[:1] == ["{"] or rest[1:2] == ["{"] and rest[0].isidentifier()
@@ -85,14 +85,14 @@ def past_ghost(past: list[Token], at: int) -> int:
 
 
 def start_of_path(words: list[str], at: int) -> int:
-    """Where the path begins whose last name stands here."""
+    """Where the path begins whose last name is here."""
     while words[at - 1] == "::":
         at -= 2
     return at
 
 
 def head(source: Source, start: int) -> list[str]:
-    """What stands before a bracket, back to the end of what came before: groups are left out."""
+    """What is before a bracket, back to the end of what came before: groups are left out."""
     said, at, opens = [], start - 1, {shut: start for start, shut in source.shut.items()}
     while at >= 0 and source.words[at] not in (";", "=>", "{", "}", "="):
         if at in opens:
@@ -120,7 +120,7 @@ def arms(source: Source, start: int) -> Iterator[tuple[int, int, int]]:
 
 
 def level(source: Source, at: int, end: int) -> Iterator[int]:
-    """The places from one to another that stand in no bracket between them."""
+    """The places from one to another that are in no bracket between them."""
     while at < end:
         yield at
         if at in source.shut:
@@ -153,7 +153,7 @@ def before_angles(words: list[str], at: int) -> int | None:
 
 
 def owner_of(said: list[str]) -> str:
-    """The type whose functions stand in an `impl`, or the trait's name."""
+    """The type whose functions are in an `impl`, or the trait's name."""
     said = said[said.index("impl") + 1:] if "impl" in said else said[said.index("trait") + 1:]
     if said[:1] == ["<"]:
         said = said[past_angles(said, 0):]
@@ -169,7 +169,7 @@ def function(source: Source, at: int) -> str:
 
 
 def compact(words: Iterable[str]) -> str:
-    """Words as they stand in a line."""
+    """Words as they are in a line."""
     said = ""
     for word in words:
         is_apart = said and (said[-1].isalnum() or said[-1] in "_,") and (word[0].isalnum() or word[0] == "_")
