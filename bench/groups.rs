@@ -3,9 +3,9 @@
 //!     rustc -O -o groups bench/groups.rs && ./groups
 //!
 //! A model of the table of the kit's map: groups of twelve entries, 9 of them in use on average where the table is full, and the next
-//! group where one is full. It puts rows of several kinds into a table of 1,024 groups (unless it is told otherwise), as long as it
-//! holds, and looks each name up; for the hash of names as the index has it, where four names that follow one another share a group,
-//! for the same with two and with eight, and for a hash of whole names. It prints the mean, and the most for one name.
+//! group where one is full. It puts rows of several kinds into a table of 1,024 groups (unless another number is given), as long as
+//! it holds, and looks each name up; for the hash of names as the index has it, where four names that follow one another share a
+//! group, for the same with two and with eight, and for a hash of whole names. It prints the mean, and the most for one name.
 
 use std::collections::HashSet;
 
@@ -108,7 +108,7 @@ fn at_random(most: u64, length: usize) -> Vec<u64> {
     std::iter::repeat_with(|| random(&mut state) % most).filter(|name| names.insert(*name)).take(length).collect()
 }
 
-/// Runs of so many names, each begun at random between the last one's end and twice the gap behind it.
+/// Runs of so many names, each begun at random between the last one's end and twice the gap after it.
 fn batches(size: u64, gap: u64, length: usize) -> Vec<u64> {
     let (mut state, mut row, mut next) = (88172645463325252, Vec::new(), 0);
     while row.len() < length {

@@ -536,8 +536,9 @@ tg_status tg_auditor_reopen(tg_auditor *auditor, tg_snapshot *snapshot);
    - TG_OUT_OF_MEMORY, or TG_HEAP_FULL where the blocks don't hold all that the snapshot shows. */
 tg_status tg_reopen(tg_store *store, tg_snapshot *snapshot, const tg_limits *limits);
 
-/* Writes the text of the snapshot, a line for each thing that it shows, as `tgaudit --snapshot` prints it. Room, *length and
-   the 0 are those of tg_entry_text. It is TG_NOT_OPEN exactly where the snapshot is closed. Otherwise it returns TG_DONE or
+/* Writes the text of the snapshot, a line for each thing that it shows. The head that `tgaudit --snapshot` prints has this text,
+   and then a line with the SHA-256 of the part before, which a head of your own may leave out. Room, *length and the 0 are
+   those of tg_entry_text. It is TG_NOT_OPEN exactly where the snapshot is closed. Otherwise it returns TG_DONE or
    TG_OUT_OF_MEMORY. */
 tg_status tg_snapshot_text(tg_snapshot *snapshot, char *text, size_t room, uint64_t *length);
 
@@ -553,7 +554,7 @@ tg_status tg_snapshot_close(tg_snapshot *snapshot);
 /* ---- Questions about the future
 
    Could x ever come to hold a right over y, by any turns of those whom the host doesn't trust? A turn is a command that a
-   worker asks for. Workers that the host trusts are silent: they take no turns. The host itself is the first of them. All other
+   worker asks for. Workers that the host trusts are silent. They take no turns. The host itself is the first of them. All other
    workers act as the rules allow, and so does each worker that is spawned on the way. The answer is about rights only. Reading
    a number and passing it on gives no right (docs/COULD.md). */
 

@@ -23,16 +23,16 @@ refuse_word() {
     exit 2
 }
 
-# take_crates PROGRAM CRATE..: puts these crates and all that they stand on, and beside them the script's own program (`main.rt.in`,
-# a name that the gate passes over, or the file that `source` names), into a temporary folder, which is gone when the script ends. The program may use each
-# of the crates that are named. From then on `build` names the folder, and `program` the folder of the program in it. What is
-# proved of a crate comes along with its times, so that it isn't proved again.
+# take_crates PROGRAM CRATE..: puts these crates and all that they depend on, and beside them the script's own program (`main.rt.in`, a name that the gate
+# passes over, or the file that `source` names), into a temporary folder, which is gone when the script ends. The program may use each of the crates that
+# are named. From then on `build` names the folder, and `program` the folder of the program in it. What is proved of a crate comes along with its times, so
+# that it isn't proved again.
 take_crates() {
     take_libraries "$@"
     cp "${source:-$here/main.rt.in}" "$program/src/main.rt"
 }
 
-# take_tests CRATE CRATE..: the same for a crate of tests, whose files stand in the script's folder `tests` with `.in` behind their
+# take_tests CRATE CRATE..: the same for a crate of tests, whose files are in the script's folder `tests` with `.in` after their
 # names. They may use threads, and wait.
 take_tests() {
     take_libraries "$@"

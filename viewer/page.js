@@ -1,5 +1,5 @@
 "use strict";
-// Shows one step at a time. Without it all of them stand below one another.
+// Shows one step at a time. Without it all of them are below one another.
 (function () {
   const steps = Array.from(document.querySelectorAll(".step"));
   const links = Array.from(document.querySelectorAll("nav a"));
@@ -22,7 +22,7 @@
     return `Line ${step.querySelector("h2").textContent}` + (reply ? `, reply ${reply}` : "") + (change ? `: ${change}` : "") + told;
   }
 
-  // Marks the step's line in the list, and scrolls the list alone, so that the line stands in the window.
+  // Marks the step's line in the list, and scrolls the list alone, so that the line is in the window.
   function mark(step) {
     for (const link of links) {
       const isNow = link.hash === `#${step.dataset.number}`;
@@ -97,7 +97,7 @@
     return place >= 0 ? place : denied >= 0 ? denied : steps.length - 1;
   }
 
-  // The place of the next line that was denied or refused, beginning anew behind the last one.
+  // The place of the next line that was denied or refused, beginning anew after the last one.
   function nextDenial() {
     const later = steps.findIndex((step, place) => place > at && isDenied(step));
     return later < 0 ? steps.findIndex(isDenied) : later;

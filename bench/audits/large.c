@@ -1,4 +1,5 @@
-/* What a store costs as it grows: large [VERTICES ..] (500,000, 1,000,000, 2,000,000 and 3,000,000 unless it is told otherwise).
+/* What a store costs as it grows: large [VERTICES ..] (500,000, 1,000,000, 2,000,000 and 3,000,000 unless another number is
+   given).
 
    Worker 0 makes the vertices, grants worker 1 a right over each, ten full collections are made, and the journal is audited, in a store with
    65,536 blocks in each space. Of each number of vertices it prints the processor time of a create, of a grant, of a cell that a collection

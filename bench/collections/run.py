@@ -7,7 +7,7 @@ bindings/check has built (young.c).
 By itself it prints the processor time of the first nursery collection after a full one and of the next one, each of 1,000 young
 vertices, at 10,000, 100,000 and 1,000,000 vertices: medians of nine runs, and their ratio. With --instructions it counts, under
 valgrind, what a full collection and one of the nurseries take for a vertex that was just made, at 100,000 and at 1,000,000, and
-prints how many times as much the second is. It wants a C compiler."""
+prints how many times as much the second is. It needs a C compiler."""
 import argparse
 import os
 import subprocess

@@ -16,7 +16,7 @@ static uint64_t draw(void) {
     return seed >> 33;
 }
 
-// A reference: present, Old, and the number of the cell where the bits of block and cell stand, above those of its rights.
+// A reference: present, Old, and the number of the cell where the bits of block and cell are, above those of its rights.
 static uint64_t link_to(uint64_t number) { return 1ull << 41 | number << 8; }
 static uint64_t number_in(uint64_t word) { return word >> 8 & ((1 << 26) - 1); }
 static uint64_t rights_in(uint64_t word) { return word & 255; }

@@ -1,5 +1,5 @@
 // rival.rs: the same search in plain Rust, which says no more than yes or no. RIVAL VERTICES EDGES SEED QUESTIONS draws
-// the picture that the program beside it draws, asks the same questions, and tells how long the longest took.
+// the picture that the program beside it draws, asks the same questions, and says how long the longest took.
 use std::time::Instant;
 
 const NONE: u32 = u32::MAX;
@@ -31,7 +31,7 @@ fn picture(vertices: u64, edges: u64, seed: u64) -> Vec<Edge> {
         .collect()
 }
 
-// The vertex at the other end four times, two more for take, one more for grant; and the next link of the same vertex, but
+// The vertex at the other end four times, two more for take, one more for grant, and the next link of the same vertex, but
 // until the links are tied the vertex.
 #[derive(Clone, Copy)]
 struct Link {

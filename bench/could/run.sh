@@ -1,6 +1,6 @@
 #!/bin/sh
 # run.sh [SEED]: how long a question of what could come about takes on large pictures, in plain Rust too (rival.rs), and a view of
-# them. It proves, builds and runs the program of tests/soak/could in a temporary folder. It wants rustc.
+# them. It proves, builds and runs the program of tests/soak/could in a temporary folder. It needs rustc.
 set -eu
 here=$(cd "$(dirname "$0")" && pwd)
 seed=${1:-1}

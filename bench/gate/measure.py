@@ -4,7 +4,7 @@ measure.py everyday                         how long a changed body is on its wa
 measure.py functions CRATE                  which functions the last check of a crate from nothing took longest for
 measure.py goals CRATE                      which goals and lemmas its checks took longest for
 
-All run at the top of the repository that the script stands in, and print Markdown.
+All run at the top of the repository that the script is in, and print Markdown.
 
 `whole` runs the gate once, from nothing, and writes what it says to LOG (out.txt in a temporary folder unless it is
 given). The total is the processor time of the gate and of all that it started, as the kernel counts it once they have
@@ -12,12 +12,12 @@ ended. The shares of the crates are sampled ten times a second, so a little is m
 took more than 15 seconds of processor time, and its status is that of the gate.
 
 `everyday` puts a statement that does nothing in front of one body of `tg_model`, of `tg_graph` and of `tg_store`, one after the other; runs `rt check`
-in that crate, and then in `tg_store`, which stands on the other two; and puts the file back. A round before these isn't counted: it proves all that
-stands below `tg_store`.
+in that crate, and then in `tg_store`, which depends on the other two, and puts the file back. A round before these isn't counted. It proves all that
+is below `tg_store`.
 
-`functions` checks nothing: it reads when each module of `out/incremental` was written. What stands between one and the
-one before it is the time of that module, by the clock; the part `Lts` of a function is what it owns and borrows at each
-of its points. It says nothing of a folder that more than one check wrote to.
+`functions` checks nothing: it reads when each module of `out/incremental` was written. What is between one and the one
+before it is the time of that module, by the clock. The part `Lts` of a function is what it owns and borrows at each of
+its points. It says nothing of a folder that more than one check wrote to.
 
 `goals` checks nothing either: it reads what the checker noted of each goal and each lemma in `out/incremental`, which
 other work hardly moves. A goal that has an answer since the folder was begun is still told.

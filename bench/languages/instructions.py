@@ -2,9 +2,8 @@
 """instructions.py [FOLDER]: how many instructions a call from Python takes, through the library that bindings/check has built.
 
 They are counted by callgrind over the whole interpreter, so other work on the machine doesn't matter. The rows are the calls by ctypes,
-and those by the extension module where it was built. FOLDER has another module kovshenul, as an older one, whose numbers stand beside.
-It wants valgrind with its headers, and a C compiler.
-"""
+and those by the extension module where it was built. FOLDER has another module kovshenul, as an older one, whose numbers are beside. It
+needs valgrind with its headers, and a C compiler. """
 import argparse
 import os
 import re

@@ -1,10 +1,9 @@
 #!/usr/bin/env python3
 """run.py [FOLDER]: commands a second from C, Rust and Python, through the library that bindings/check has built.
 
-Five runs of each in turn; the medians are printed as a table, in millions a second, and how many times as many the extension module of
+Five runs of each in turn. The medians are printed as a table, in millions a second, and how many times as many the extension module of
 Python makes as ctypes. FOLDER has another module kovshenul for Python, as an older one, whose speed is then beside that of this one. It
-wants a C compiler, and leaves out Rust where there is no cargo, and the extension module where it wasn't built.
-"""
+needs a C compiler, and leaves out Rust where there is no cargo, and the extension module where it wasn't built. """
 import argparse
 import os
 import shutil

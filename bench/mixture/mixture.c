@@ -1,6 +1,6 @@
 /* What a mixture of commands costs through the library for C: mixture FILE [setup]
 
-   FILE has what Mixture.bytes of mixture.py gives. With setup behind it only the vertices are made. It prints a sum over all
+   FILE has what Mixture.bytes of mixture.py gives. With setup after it only the vertices are made. It prints a sum over all
    answers, page faults, the bytes of malloc, and the processor time. mixture/run.py builds and runs it. */
 #include "kovshenul.h"
 #include <malloc.h>

@@ -19,7 +19,7 @@ READ, GRANT, CREATE, REMOVE, INSPECT, MINOR, FULL = range(7)
 
 
 class Step(NamedTuple):
-    """A command of a worker, on one vertex or two, with rights; or a collection."""
+    """A command of a worker, on one vertex or two, with rights, or a collection."""
 
     kind: int
     worker: int = 0

@@ -1,5 +1,5 @@
 
-// ---- mixtures (bench/mixture/run.py puts this behind boxed.rs, whose own main has another name then)
+// ---- mixtures (bench/mixture/run.py puts this after boxed.rs, whose own main has another name then)
 
 /// The steps of a file (Mixture.bytes of mixture.py), of which each number has four bytes.
 struct Steps {

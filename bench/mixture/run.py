@@ -2,9 +2,9 @@
 """run.py [LIVE] [COMMANDS] [--instructions]
 
 What a mixture of commands (mixture.py) costs through the library for C that bindings/check has built, and in the plain program
-../boxed.rs (with rival.rs behind it): 500,000 vertices and 1,000,000 commands unless they are given. It prints what each of the two
+../boxed.rs (with rival.rs after it): 500,000 vertices and 1,000,000 commands unless they are given. It prints what each of the two
 prints, of the whole and of the making of the vertices alone, whose sums over all answers have to be the same; with --instructions the
-millions of instructions, under valgrind. It wants a C compiler and rustc. bench/run.py runs mixtures as scripts."""
+millions of instructions, under valgrind. It needs a C compiler and rustc. bench/run.py runs mixtures as scripts."""
 import argparse
 import multiprocessing
 import os
@@ -40,7 +40,7 @@ def rival(folder):
 
 
 def told(words, is_counted):
-    """What a run prints; or its millions of instructions, and the sum."""
+    """What a run prints, or its millions of instructions, and the sum."""
     if is_counted:
         run = counted(words)
         return f"{re.match('sum [0-9a-f]+', run.output.decode())[0]}, {run.instructions / 1e6:.1f} million instructions"

@@ -1,6 +1,6 @@
 //! What one would write in the place of a store: maps in plain Rust. maps FILE WAY [setup]
 //!
-//! FILE has what Mixture.bytes of ../mixture/mixture.py gives. With setup behind it only the vertices are made. WAY is one of these:
+//! FILE has what Mixture.bytes of ../mixture/mixture.py gives. With setup after it only the vertices are made. WAY is one of these:
 //!
 //! - `edges`: one map from a pair of vertices to rights, and a list of targets for each vertex. Nothing is ever freed.
 //! - `counts`: a map of targets for each vertex, and a count of the edges to it. A vertex goes with its last edge. Circles stay.

@@ -6,7 +6,7 @@ same mixture of commands (../mixture/mixture.py), of 100,000 vertices and 150,00
 same answers. The store is called through the library for C that bindings/build has made (../mixture/mixture.c). All keep a journal.
 
 It prints a table: millions of commands a second of processor time, for the making of the vertices and for the rest, and the bytes of a
-vertex after the making. A figure is the median of N rounds, 3 unless N is given, in which the programs take turns. It wants rustc, a C
+vertex after the making. A figure is the median of N rounds, 3 unless N is given, in which the programs take turns. It needs rustc, a C
 compiler and SQLite's headers. --without-store leaves the store out."""
 import argparse
 import re
@@ -24,7 +24,7 @@ from mixture import Mixture
 
 LIBRARY = TOP / "bindings/out/libkovshenul.a"
 
-# What a program is called, with its words behind the file of steps, and what it gives.
+# What a program is called, with its words after the file of steps, and what it gives.
 WAYS = {
     "the store": ("store", [], "rules, journal, collections"),
     "one map of edges": ("maps", ["edges"], "rules, journal; frees nothing"),

@@ -7,7 +7,7 @@ are given. The figures are medians of three rounds, in which the two programs ta
 what was resident after the creates. It prints the load of the machine before and after. 16,000,000 vertices take 4 GB.
 
 With --helpers it prints in place of this how long full collections take by one thread and by four, by the clock. It builds the program
-beside it for this (main.rt.in), without proofs. It wants a C compiler and Linux, and asserts nothing."""
+beside it for this (main.rt.in), without proofs. It needs a C compiler and Linux, and asserts nothing."""
 import argparse
 import os
 import subprocess

@@ -1,4 +1,4 @@
-//! The plain program that shared stores are measured against: a graph with a journal behind a `Mutex`, written in plain Rust
+//! The plain program that shared stores are measured against: a graph with a journal in a `Mutex`, written in plain Rust
 //! with no proof in mind. A vertex is a struct with an ordered map of its edges. Each thread keeps what it was answered.
 //! Each line of standard input is a number of threads. Its answer is a line as that of `main.rt.in`.
 //!

@@ -2,12 +2,12 @@
 """rates.py [--rounds N] [OURS PLAIN]
 
 Prints how many commands a second 1, 2, 4 and 8 sessions on threads have answered, beside a plain program with a journal
-behind a mutex (plain.rs). Each session makes 33,333 vertices, grants a right over each to the next worker, and reads it.
-The two programs take turns, and a number is the median of N rounds (5 if it is left out). Beside the rate it prints how
+in a mutex (plain.rs). Each session makes 33,333 vertices, grants a right over each to the next worker, and reads it. The
+two programs take turns, and a number is the median of N rounds (5 if it is left out). Beside the rate it prints how
 often a thread slept (a voluntary switch, as the kernel counts it) for each command, and the processor time of a command.
 
 OURS and PLAIN are the built programs: run.sh proves and builds them. Without them this script builds both, ours without
-its proof. It wants rustc and Linux."""
+its proof. It needs rustc and Linux."""
 import argparse
 import os
 import statistics

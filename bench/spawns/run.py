@@ -1,9 +1,9 @@
 #!/usr/bin/env python3
 """run.py [ROUNDS]: what eight sessions hold that spawn 1,600 subjects in each round, in 625 rounds unless it is given.
 
-It builds the program beside it (`main.rt.in`), unproved, with the crates that it needs, and prints what it has behind the seventh round, some
-10,000 subjects, and behind the last: the bytes that it holds, as the counter of tests/held tells them, and what is resident, with glibc's
-malloc as it is, and as docs/LASTING.md advises, with one arena and both thresholds at 64 KiB. It wants Linux and a C compiler."""
+It builds the program beside it (`main.rt.in`), unproved, with the crates that it needs, and prints what it has after the seventh round, some
+10,000 subjects, and after the last: the bytes that it holds, as the counter of tests/held tells them, and what is resident, with glibc's
+malloc as it is, and as docs/LASTING.md advises, with one arena and both thresholds at 64 KiB. It needs Linux and a C compiler."""
 import argparse
 import os
 import re
@@ -20,7 +20,7 @@ from repository.unproved import build_beside
 
 HERE = Path(__file__).resolve().parent
 USES = "tg_rights tg_model tg_payload tg_journal tg_store tg_shared"
-# So many subjects are spawned in a round, and behind so many rounds it is looked for the first time.
+# So many subjects are spawned in a round, and after so many rounds it is looked for the first time.
 SUBJECTS, FIRST = 1_600, 7
 
 ADVISED = {"MALLOC_ARENA_MAX": "1", "MALLOC_MMAP_THRESHOLD_": "65536", "MALLOC_TRIM_THRESHOLD_": "65536"}
@@ -33,7 +33,7 @@ def resident(process):
 
 
 def held(program, rounds, more):
-    """What was resident behind the first rounds and behind the last."""
+    """What was resident after the first rounds and after the last."""
     found = []
     with subprocess.Popen([program], stdin=subprocess.PIPE, stdout=subprocess.PIPE, text=True, env=os.environ | more) as process:
         for number in range(1, rounds + 1):
@@ -49,7 +49,7 @@ def held(program, rounds, more):
 
 
 def counted(program, rounds, folder):
-    """How many bytes it holds behind so many rounds, when it has read that there are no more."""
+    """How many bytes it holds after so many rounds, when it has read that there are no more."""
     library, told = folder / "counter.so", folder / "told"
     compiler = os.environ.get("CC", "cc").split()
     subprocess.run([*compiler, "-O2", "-shared", "-fPIC", "-o", library, TOP / "tests/held/counter.c"], check=True)

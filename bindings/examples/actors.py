@@ -23,7 +23,7 @@ IS_ADDRESS = 1 << 63
 
 
 class MailboxFull(Exception):
-    """The log has no room: it would lose a message that wasn't read."""
+    """The log has no room. It would lose a message that wasn't read."""
 
 
 @dataclass(frozen=True)
@@ -49,7 +49,8 @@ class System:
         self.store, self.actors, self.queue, self.running = store, {}, deque(), None
 
     def start(self, behaviour):
-        """Starts an actor, and returns its address. If an actor starts it, that actor holds the address; else the host keeps it."""
+        """Starts an actor, and returns its address. If an actor starts it, that actor holds the address. Otherwise the host keeps
+        it."""
         name = self.store.create(SYSTEM, ADDRESS, Log(MOST_NUMBERS))
         self.actors[name] = Actor(behaviour, is_kept=self.running is None)
         if self.running is not None:
@@ -139,7 +140,7 @@ def printer(text):
 
 
 def link():
-    """A link of a ring: it gets the address of the next one first, and then passes numbers on, each time one less."""
+    """A link of a ring. It gets the address of the next one first, and then passes numbers on, each time one less."""
     following = None
 
     def behave(system, me, message):

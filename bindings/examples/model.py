@@ -1,4 +1,4 @@
-"""Tests a host against the model in plain Python: it is run over the store and over the model, and all answers are the same."""
+"""Tests a host against the model in plain Python. It is run over the store and over the model, and all answers are the same."""
 import kovshenul
 from kovshenul import GRANT, READ, WRITE, Cell, Denied, Log, plain
 

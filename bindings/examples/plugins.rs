@@ -75,7 +75,7 @@ fn load<'a>(store: &mut Store, plugin: &'a Plugin, document: u64) -> Result<Load
     Ok(Loaded { plugin, worker })
 }
 
-/// Runs a plug-in, and tells what came of it. What isn't served ends the plug-in's work, and the host goes on.
+/// Runs a plug-in, and says what came of it. What isn't served ends the plug-in's work, and the host goes on.
 fn run(store: &mut Store, loaded: &Loaded<'_>, document: u64) -> Result<(), Error> {
     let name = loaded.plugin.name;
     match (loaded.plugin.run)(store, loaded.worker, document) {
@@ -87,7 +87,7 @@ fn run(store: &mut Store, loaded: &Loaded<'_>, document: u64) -> Result<(), Erro
     Ok(())
 }
 
-/// Has the plug-in's worker leave, whether it would or not: it gives up all it has, and retires. Then the host gives up what it has
+/// Has the plug-in's worker leave, whether it would or not. It gives up all it has, and retires. Then the host gives up what it has
 /// over the worker, which goes with the next full collection.
 fn unload(store: &mut Store, loaded: &Loaded<'_>) -> Result<(), Error> {
     store.leave(loaded.worker)?;

@@ -5,7 +5,7 @@
    Who holds what is asked by tg_label, of which the journal gets no entry: a list would keep the whole row in it each
    time. After a collection tg_names says which objects there still are; what was kept beside the others is freed.
 
-   Whoever has an edge to a process that merely retired keeps all that it held. So one that ends leaves: it gives up all
+   Whoever has an edge to a process that merely retired keeps all that it held. So one that ends leaves. It gives up all
    its handles and retires, in one call. The others know it still, and have nothing by it.
 
    Build it with: cc processes.c -lkovshenul */
@@ -80,7 +80,7 @@ static void open_object(uint64_t process) {
     objects[made++] = name;
 }
 
-/* An object that the process has a handle to, of a few that are looked at; or none. */
+/* An object that the process has a handle to, of a few that are looked at, or none. */
 static uint64_t object_of(uint64_t process, uint64_t *rights) {
     for (int tries = 0; made > 0 && tries < 50; tries++) {
         uint64_t name = objects[next_random((uint32_t)made)];
@@ -91,7 +91,7 @@ static uint64_t object_of(uint64_t process, uint64_t *rights) {
     return NONE;
 }
 
-/* To one that it was introduced to. To itself it may not, which is denied: it holds no right over itself. */
+/* To one that it was introduced to. To itself it may not, which is denied. It holds no right over itself. */
 static void hand_on(uint64_t process) {
     uint64_t rights, other = processes[next_random(SLOTS)], name = object_of(process, &rights);
     if (name == NONE || other == NONE)

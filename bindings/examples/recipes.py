@@ -1,4 +1,4 @@
-"""What hosts do with a store, one function for each recipe of docs/RECIPES.md; and a run of them."""
+"""What hosts do with a store, one function for each recipe of docs/RECIPES.md, and a run of them."""
 from kovshenul import FULL, GRANT, INSPECT, READ, TAKE, WRITE, Auditor, Cell, Denied, Refused, Store, outlook
 
 HOST = 0
@@ -64,7 +64,7 @@ def show(what, it):
 
 
 def run_of_plugins(store):
-    """Two plug-ins: rights that are handed on, refused and taken back; and an end."""
+    """Two plug-ins: rights that are handed on, refused and taken back, and an end."""
     giver, receiver = (store.spawn(HOST, TAKE | GRANT, Cell(0)) for _ in range(2))
     note = store.create(giver, READ | WRITE, Cell(7))
     store.hand(HOST, giver, receiver, note, READ)

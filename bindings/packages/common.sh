@@ -7,7 +7,7 @@ warnings="-std=c11 -Wall -Wextra -pedantic -Werror"
 version=$(cat "$top/VERSION")
 abi=$(sed -n 's/^#define TG_ABI //p' "$here/kovshenul.h")
 shared=libkovshenul.so.$abi
-archive=$top/crates/tg_c/out/libtg_c.a
+archive=$top/crates/tg_exports/out/libtg_exports.a
 extension=$here/python/kovshenul/_extension.abi3.so
 programs="tgstore tgaudit tgcould tgdot"
 
@@ -27,7 +27,7 @@ misused() {
     exit 2
 }
 
-# Prints what stands at the head of the script that reads this, and ends, where one of its words asks for that.
+# Prints what is at the head of the script that reads this, and ends, where one of its words asks for that.
 helps() {
     for word in "$@"; do
         case $word in
@@ -60,9 +60,9 @@ sum() {
     sha256sum | cut -d ' ' -f 1
 }
 
-# The crates below tg_c, lowest first, and tg_c after them.
+# The crates below tg_exports, lowest first, and tg_exports after them.
 crates_of_library() {
-    "$top/tools/crates" with tg_c
+    "$top/tools/crates" with tg_exports
 }
 
 # The files of a crate's folder, as sources of it.
@@ -79,7 +79,7 @@ sum_of_text() {
         export LC_ALL=C
         {
             rt version
-            tools/crates line $(tools/crates with "${1-tg_c}") | while read -r line; do
+            tools/crates line $(tools/crates with "${1-tg_exports}") | while read -r line; do
                 echo "$line"
                 files_of_crate "crates/${line%%[ :]*}" | sort | tr '\n' '\0' | xargs -0 sha256sum
             done
@@ -125,7 +125,7 @@ sum_of_library() {
     fi
 }
 
-# Whether the library in 'out' fits the header, the modules and the crate which lie here; and with the sum of a text,
+# Whether the library in 'out' fits the header, the modules and the crate which lie here, and with the sum of a text,
 # whether it is of that.
 is_library_of() {
     test -e "$out/built" || return 1

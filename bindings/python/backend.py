@@ -28,7 +28,7 @@ def told(name):
 
 
 def version():
-    """That of the repository, and what KOVSHENUL_MARK has behind it."""
+    """That of the repository, and what KOVSHENUL_MARK has after it."""
     return (HERE.parent.parent / "VERSION").read_text().strip() + os.environ.get("KOVSHENUL_MARK", "")
 
 

@@ -1,5 +1,5 @@
-/* Kills the host of scripts in Lua at a flush of its file: it is linked with --wrap=fflush, and stands in for the C library's. KILL_AT
-   is the number of the flush, from 1 on. With KILL_CUTS the file loses so many of its last bytes before, as after a write that wasn't
+/* Kills the host of scripts in Lua at a flush of its file. It is linked with --wrap=fflush, and replaces the C library's. KILL_AT is
+   the number of the flush, from 1 on. With KILL_CUTS the file loses so many of its last bytes before, as after a write that wasn't
    whole. Without KILL_AT nothing is killed, and the number of flushes goes to standard error if KILL_COUNTS is set. */
 #define _POSIX_C_SOURCE 200809L
 #include <signal.h>

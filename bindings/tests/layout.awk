@@ -1,9 +1,8 @@
 # Writes a C file that compiles exactly where kovshenul.h fits the library's text: each struct of numbers has the same
 # fields at the same offsets, each export the same parameters, each constant the number that the contracts give it.
 #
-# It reads crates/tg_c/src/forms.rt, records.rt, place.rt, answer.rt, exports.rt, could.rt, resuming.rt, text.rt, ending.rt,
-# handing.rt, those of its auditor, snapshot and view, crates/tg_c/specs/Forms.antt, Records.antt, Could.antt and View.antt, behind
-# them crates/tg_model/specs/Commands.antt, and crates/tg_rights/specs/RightSet.antt.
+# It reads the exports in crates/tg_exports/src, and the structs of numbers and the places in crates/tg_c/src. After them it reads Forms.antt,
+# Records.antt, Could.antt and View.antt of crates/tg_c/specs, then crates/tg_model/specs/Commands.antt and crates/tg_rights/specs/RightSet.antt.
 
 function same(is, wanted) {
     printf "SAME(%s, %s);\n", is, wanted
@@ -28,7 +27,7 @@ function capitals(name) {
     return toupper(name)
 }
 
-# The first number that stands behind the words.
+# The first number that is after the words.
 function number_after(words, line) {
     match(line, words)
     line = substr(line, RSTART + RLENGTH)
@@ -85,7 +84,7 @@ repr && /^pub struct / {
 
 struct && /^}/ {
     printf "} twin_%s;\n", struct
-    # the header has no name for a handle: it is looked at in its place
+    # the header has no name for a handle. It is looked at in its place
     if (struct ~ /Place$/) same("offsetof(twin_" struct ", handle.at)", "offsetof(" types[struct] ", handle.at)")
     if (struct ~ /Handle$/) fields = 0
     else same("sizeof(twin_" struct ")", "sizeof(" types[struct] ")")
@@ -121,7 +120,7 @@ open {
 
 # ---- constants
 
-# of the rights, whose sum stands on the lines up to an empty one
+# of the rights, whose sum is on the lines up to an empty one
 /^bits_of s =/ {
     count = split("r READ w WRITE t TAKE g GRANT a APPEND l INSPECT u FREE_U v FREE_V", words, " ")
     for (i = 1; i < count; i += 2) right[words[i]] = words[i + 1]

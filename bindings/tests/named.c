@@ -18,7 +18,7 @@ static const char *name_of(void *it, uint64_t vertex) {
     struct host *host = it;
     if (++host->asked > host->fails_after || vertex > LOG)
         return NULL;
-    /* One text for all names: it lasts until the next call alone. */
+    /* One text for all names. It lasts until the next call alone. */
     snprintf(host->text, sizeof host->text, "%s", names[vertex]);
     return host->text;
 }

@@ -1,14 +1,13 @@
 /* random SEED COMMANDS FOLDER: random commands by eight threads, each on a store of its own, written as scripts with the replies beside
    them: FOLDER/0.script and FOLDER/0.replies are those of the first.
 
-   A script is one that the plain program bench/reference.rs takes, whose replies must be the same. Some stores have tight limits, and of some
-   requests for memory are refused. A call that is refused for either changes nothing, so the script leaves it out. The stores move from place
-   to place, and what a call may not write to is looked at. Collections of the nurseries run in between, of which the script says nothing.
-   What could come about is asked now and then, of the store and of a view, and again behind a collection; each question is written with what
-   was told to FOLDER/0.questions, and is asked of the plain graph too.
-   The journal is written as a script with the replies that it has, FOLDER/0.journal.script and FOLDER/0.journal.replies: at the end, but of
-   each second store part after part, as an auditor has replayed entries and they are given up. Another store goes on from each entry that is
-   written, and has to have its reply. All is audited, and each block of memory has to have been given back. It is linked with --wrap=malloc,--wrap=realloc,--wrap=free. */
+   A script is one that the plain program bench/reference.rs takes, whose replies must be the same. Some stores have tight limits, and of some requests for memory are
+   refused. A call that is refused for either changes nothing, so the script leaves it out. The stores move from place to place, and what a call may not write to is looked
+   at. Collections of the nurseries run in between, of which the script says nothing. What could come about is asked now and then, of the store and of a view, and again
+   after a collection; each question is written with what was told to FOLDER/0.questions, and is asked of the plain graph too. The journal is written as a script with the
+   replies that it has, FOLDER/0.journal.script and FOLDER/0.journal.replies: at the end, but of each second store part after part, as an auditor has replayed entries and
+   they are given up. Another store goes on from each entry that is written, and has to have its reply. All is audited, and each block of memory has to have been given
+   back. It is linked with --wrap=malloc,--wrap=realloc,--wrap=free. */
 #include "kovshenul.h"
 #include <inttypes.h>
 #include <pthread.h>
@@ -194,7 +193,7 @@ static tg_auditor *auditor_of(struct run *run) {
     return &run->auditors[run->place];
 }
 
-/* Whether the call was answered, and its line stands in the script. One that is refused has a reason. */
+/* Whether the call was answered, and its line is in the script. One that is refused has a reason. */
 static int is_answered(struct run *run, tg_status status, long refused_before) {
     if (status == TG_OUT_OF_MEMORY) {
         want(run, refused > refused_before, "out of memory with memory");
@@ -546,7 +545,7 @@ static void make(struct run *run, int spawns) {
     run->made += is;
 }
 
-/* One of those behind the three oldest mostly. The last three stay. */
+/* One of those after the three oldest mostly. The last three stay. */
 static void retire(struct run *run) {
     uint64_t kept = 0;
     long before = refused;
@@ -565,7 +564,7 @@ static void retire(struct run *run) {
     run->active = kept;
 }
 
-/* The names of the workers, which stand in no script: those that were spawned and haven't retired, as many as there is room for. */
+/* The names of the workers, which are in no script: those that were spawned and haven't retired, as many as there is room for. */
 static void look_at_workers(struct run *run) {
     uint64_t names[MOST_WORKERS], count = UNTOUCHED, room = below(run, MOST_WORKERS + 1);
     memset(names, 0xbb, sizeof names);
@@ -575,7 +574,7 @@ static void look_at_workers(struct run *run) {
         want(run, names[i] == (i < count && i < room ? run->workers[i].name : UNTOUCHED), "a worker's name");
 }
 
-/* A collection of the nurseries stands in no script. */
+/* A collection of the nurseries is in no script. */
 static void collect(struct run *run, uint32_t kind) {
     uint64_t left = UNTOUCHED;
     long before = refused;
@@ -643,7 +642,7 @@ static uint64_t chance_of(struct run *run, const struct question *it) {
     return kind;
 }
 
-/* Writes a question behind so many lines of the script, and the kind of its answer. */
+/* Writes a question after so many lines of the script, and the kind of its answer. */
 static void put_question(struct run *run, const struct question *it, uint64_t kind) {
     char text[RIGHTS + 1];
     fprintf(run->questions, "%ld %" PRIu64 " --ask '%" PRIu64 " %s %" PRIu64 "'", WORKERS + run->answered, kind, it->x,
@@ -655,7 +654,7 @@ static void put_question(struct run *run, const struct question *it, uint64_t ki
     fputs("\n", run->questions);
 }
 
-/* A question is asked, of a view too, and again behind a collection of either kind: the answers are the same. */
+/* A question is asked, of a view too, and again after a collection of either kind: the answers are the same. */
 static void ask_some(struct run *run) {
     struct question it = draw(run);
     say(run, "asks");
@@ -756,7 +755,7 @@ static void open_store(struct run *run) {
 
 /* ---- the end */
 
-/* Writes the entries that are left. There is none behind them. */
+/* Writes the entries that are left. There is none after them. */
 static void end_journal(struct run *run, tg_store *store) {
     uint64_t next = next_entry(run, store), numbers[NUMBERS];
     tg_record entry;

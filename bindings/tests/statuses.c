@@ -187,12 +187,12 @@ static void letters_of_rights(void) {
         } else
             WANT(tg_rights_read(said, &rights) == TG_BAD_RIGHTS && rights == UNTOUCHED);
     }
-    /* Of one letter, which any of 12 may follow behind the 0; of two, which one may follow; of three. */
+    /* Of one letter, which any of 12 may follow after the 0; of two, which one may follow; of three. */
     WANT(read == 8 * count + 28 + 56);
     WANT(tg_rights_read("rwtgaluvv", &rights) == TG_BAD_RIGHTS && tg_rights_read("", &rights) == TG_BAD_RIGHTS);
 }
 
-/* A denial that isn't wanted may be NULL, and the journal has it all the same; limits to start with are some. */
+/* A denial that isn't needed may be NULL, and the journal has it all the same; limits to start with are some. */
 static void unwanted_denials(void) {
     static const tg_limits start = TG_LIMITS_INIT;
     tg_store store = TG_STORE_INIT;
@@ -350,7 +350,7 @@ static void laws(tg_store *store) {
     WANT(tg_read(store, 0, most, numbers, 64, &count, &why) == TG_DONE && numbers[0] == 5);
 }
 
-/* The heap has the vertices below this number, each of which is named once, in any order. Behind the names the room is as it was; with
+/* The heap has the vertices below this number, each of which is named once, in any order. After the names the room is as it was; with
    too little room as many are named as fit, and all are counted. */
 static void names_below(tg_store *store, uint64_t vertices) {
     uint64_t seen = 0, count;
@@ -419,7 +419,7 @@ static void appends(tg_store *store, uint64_t log, uint64_t other) {
     WANT(tg_read(store, 1, other, numbers, 64, &count, &why) == TG_DONE && count == 1 && numbers[0] == 40);
 }
 
-/* Inspects: the target's edges and not the worker's, as many as there is room for; and denied, which writes to the denial alone. */
+/* Inspects: the target's edges and not the worker's, as many as there is room for, and denied, which writes to the denial alone. */
 static void inspects(tg_store *store, uint64_t log, uint64_t other) {
     tg_target row[4] = { { 0, 0 }, { 0, 0 }, { UNTOUCHED, UNTOUCHED }, { UNTOUCHED, UNTOUCHED } };
     uint64_t count = UNTOUCHED;
@@ -470,7 +470,7 @@ static void all_rights(void) {
     WANT(tg_close(&store) == TG_DONE);
 }
 
-/* The workers are these, by rising name. Behind them the room is as it was; with too little room as many are named as fit. */
+/* The workers are these, by rising name. After them the room is as it was; with too little room as many are named as fit. */
 static void workers_are(tg_store *store, const uint64_t *wanted, uint64_t active) {
     uint64_t room[65], count, entries, after;
     memset(room, UNTOUCHED, sizeof room);
@@ -637,7 +637,7 @@ static void three_leave(void) {
     WANT(tg_close(&store) == TG_DONE);
 }
 
-/* With 64 workers none is spawned until one retires; the refusal has its entry. No worker is needed to count, collect or audit. */
+/* With 64 workers none is spawned until one retires. The refusal has its entry. No worker is needed to count, collect or audit. */
 static void as_many_workers_as_may_be(void) {
     const tg_limits many = { 200, 200, 100 };
     tg_store store = TG_STORE_INIT;
@@ -665,7 +665,7 @@ static void as_many_workers_as_may_be(void) {
     WANT(tg_close(&store) == TG_DONE);
 }
 
-/* The opening, and one entry of each deed and of each reply but TG_REPLY_WORKERS_FULL; what they are stands in the journal below. */
+/* The opening, and one entry of each deed and of each reply but TG_REPLY_WORKERS_FULL; what they are is in the journal below. */
 static void deeds(tg_store *store) {
     static const tg_edge joined[2] = { { 0, 1, TG_TAKE | TG_GRANT | TG_INSPECT }, { 1, 0, TG_GRANT } };
     static const tg_limits five = { 5, 8, 4 };
@@ -722,7 +722,7 @@ static const tg_record journal[] = {
 
 enum { ENTRIES = sizeof journal / sizeof *journal };
 
-/* The numbers and edges of those entries that have any. Behind them the rooms are as they were. */
+/* The numbers and edges of those entries that have any. After them the rooms are as they were. */
 static void entry_lists(tg_store *store) {
     static const uint64_t firsts[ENTRIES] = { [1] = 40, [3] = 7, [4] = 7, [11] = 8 };
     static const tg_target held[3] = { { 0, TG_GRANT }, { 2, TG_WRITE }, { 3, TG_READ | TG_APPEND } };
@@ -749,7 +749,7 @@ static void small_rooms(tg_store *store) {
     WANT(room[0] == 8 && row[0].to == 0 && row[1].to == 2 && row[2].to == UNTOUCHED);
 }
 
-/* Each entry is read back as it was made, before and after a collection, and there is none behind the last. Reading makes no entry. */
+/* Each entry is read back as it was made, before and after a collection, and there is none after the last. Reading makes no entry. */
 static void entries_read(void) {
     tg_store store = TG_STORE_INIT;
     uint64_t count;
@@ -796,13 +796,13 @@ static void entries_forgotten(void) {
     WANT(tg_close(&store) == TG_DONE);
 }
 
-/* Whether the auditor stands at this place. */
+/* Whether the auditor is at this place. */
 static int stands_at(tg_auditor *auditor, uint64_t place) {
     uint64_t at = UNTOUCHED;
     return tg_auditor_at(auditor, &at) == TG_DONE && at == place;
 }
 
-/* A journal is audited part after part, and given up behind the auditor and no further. */
+/* A journal is audited part after part, and given up as far as the auditor has come. */
 static void parts_audited(void) {
     tg_store store = TG_STORE_INIT;
     tg_auditor auditor = TG_AUDITOR_INIT;

@@ -5,7 +5,7 @@ Counts, under valgrind, what tgaudit takes for a create and a remove beside 1,00
 the second is at most 1.5 times the first. No clause speaks of it: an audit that forgets what nobody reaches at each entry answers the
 same.
 
-For each size two texts are audited, with and without these entries; their difference over the number of times is what one of them
+For each size two texts are audited, with and without these entries. Their difference over the number of times is what one of them
 costs. PROGRAM is crates/tgaudit/out/tgaudit unless it is given. Exit status 1 where the second costs more, or a run ended otherwise
 than well. Where valgrind isn't here, nothing is run."""
 import sys
@@ -35,7 +35,7 @@ def of_one(program: str, size: int) -> float:
 
 
 def count(asked: Namespace) -> int:
-    """Prints both counts; returns the status."""
+    """Prints both counts. Returns the status."""
     few, many = (of_one(asked.program, size) for size in (FEW, MANY))
     told = f"beside {FEW:,} vertices: {few:.0f} instructions; {MANY:,}: {many:.0f}, {many / few:.2f} times as many"
     print(f"audited: a create and a remove {told}", flush=True)

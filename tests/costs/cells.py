@@ -3,15 +3,15 @@
 
 Counts, under valgrind, what a full collection takes for a vertex, by one thread and by two helpers, and says whether that is at most
 1.02 times what is stored in tests/costs/cells.figures. No clause speaks of it: a call that the compiler no longer lays out where it
-stands gives the same heap, and shows here alone. The heaps:
+is gives the same heap, and shows here alone. The heaps:
 
   rows     64 workers with 546 objects each
   tree     objects that name two others each, the children before their parents
   random   the same tree, whose places are in no order
 
-Two scripts are run, with 5 collections and with 25; their difference over 20 times the number of vertices is what one takes. Where two
-helpers work, all that both do is counted, so it is a helper's walk that is seen, and not how they share it; since they wait for
-each other, each script is run three times then, and the least counts.
+Two scripts are run, with 5 collections and with 25. Their difference over 20 times the number of vertices is what one takes. Where two
+helpers work, all that both do is counted, so it is a helper's walk that is seen, and not how they share it; since they wait for each
+other, each script is run three times then, and the least counts.
 
 --write makes the figures anew, beside the kit that built the program. Each kit has a compiler of its own, whose code differs a little.
 Therefore a program that another kit built may take up to 1.08 times the stored figure. A walk that lost its layout took 1.11 to 1.19
@@ -39,7 +39,7 @@ HELPERS = (1, 2)
 TIMES = {1: 1, 2: 3}
 WORKERS, OBJECTS = 64, 546
 NODES = 16_383
-# A step that has no divisor with the number of nodes: it goes over all of them, in no order that a reader would see.
+# A step that has no divisor with the number of nodes. It goes over all of them, in no order that a reader would see.
 STEP = 10_001
 
 
@@ -90,7 +90,7 @@ def read_figures() -> tuple[str, dict[tuple[str, int], float]]:
 
 
 def write_figures(program: str) -> int:
-    """Makes the figures anew; returns the status."""
+    """Makes the figures anew. Returns the status."""
     made = [f"{shape} {helpers} {of_a_vertex(program, shape, helpers):.1f}" for shape in SHAPES for helpers in HELPERS]
     write_text(FIGURES, "\n".join([version(), *made]) + "\n")
     print("\n".join(made))
@@ -98,7 +98,7 @@ def write_figures(program: str) -> int:
 
 
 def check(program: str) -> int:
-    """Compares with the stored figures; returns the status."""
+    """Compares with the stored figures. Returns the status."""
     made_by, known = read_figures()
     most = MOST_TIMES
     if made_by != version():
@@ -115,7 +115,7 @@ def check(program: str) -> int:
 
 
 def count(asked: Namespace) -> int:
-    """Does what the command line asks for; returns the status."""
+    """Does what the command line asks for. Returns the status."""
     return write_figures(asked.program) if asked.write else check(asked.program)
 
 

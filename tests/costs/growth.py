@@ -26,9 +26,9 @@ at most so many times the first. No clause speaks of it: a walk over all that is
            Their indexes are looked up. The second is of rows among the first 64 names. Where their indexes are is kept, so that it
            has to be less
 
-For each size two scripts are run, with and without the commands that are counted; their difference over the number of times is what
-one costs. PROGRAM is crates/tgstore/out/tgstore unless it is given; --only leaves out what hasn't the text in its name. Exit
-status 1 where one costs more, or a run ended otherwise than it is to. Where valgrind isn't here, nothing is run."""
+For each size two scripts are run, with and without the commands that are counted. Their difference over the number of times is what
+one costs. PROGRAM is crates/tgstore/out/tgstore unless it is given; --only leaves out what hasn't the text in its name. Exit status
+1 where one costs more, or a run ended otherwise than it is to. Where valgrind isn't here, nothing is run."""
 import sys
 from argparse import Namespace
 from collections.abc import Callable
@@ -56,7 +56,7 @@ class Counted:
 
 
 def rounds_of(first: int) -> list[str]:
-    """Rounds of a create, a remove and a nursery collection; the first vertex has this name."""
+    """Rounds of a create, a remove and a nursery collection. The first vertex has this name."""
     names = range(first, first + TIMES)
     return [line for name in names for line in ("0 create r", f"0 remove {name} r", "minor")]
 
@@ -122,7 +122,7 @@ def removes(row: int) -> Counted:
 
 
 def holes(row: int) -> Counted:
-    """The name that is given up is the one that was made last, whose edge stands last."""
+    """The name that is given up is the one that was made last, whose edge is last."""
     names = range(row, row + TIMES)
     rounds = [line for name in names for line in (f"0 remove {name} r", "0 create r")]
     return Counted(["--workers", "1", "--stock", f"c{row + TIMES}"], ["0 create r"] * row, rounds)
@@ -152,7 +152,7 @@ def parties(others: int) -> Counted:
 
 
 def late(others: int) -> Counted:
-    """Ten are spawned, of whom all but the last retire: so its place isn't its name, which has two digits."""
+    """Ten are spawned, of whom all but the last retire. So its place isn't its name, which has two digits."""
     *gone, last = range(others + 1, others + 11)
     before = ["0 spawn r", *(line for name in gone for line in (f"{name} retire", "0 spawn r"))]
     return Counted(["--workers", str(others + 1), "--stock", "c10"], before, [f"{last} list"] * TIMES)
@@ -216,7 +216,7 @@ def is_bounded(program: str, name: str) -> bool:
 
 
 def count(asked: Namespace) -> int:
-    """Tries each check that is asked for; returns the status."""
+    """Tries each check that is asked for. Returns the status."""
     kept = [is_bounded(asked.program, name) for name in CHECKS if asked.only in name]
     return 0 if all(kept) else 1
 

@@ -47,7 +47,7 @@ def is_bounded(program: str, size: int) -> bool:
 
 
 def count(asked: Namespace) -> int:
-    """Tries each size that is asked for; returns the status."""
+    """Tries each size that is asked for. Returns the status."""
     kept = [is_bounded(asked.program, size) for size in SIZES if size <= asked.most]
     return 0 if all(kept) else 1
 

@@ -2,10 +2,10 @@
 """takes.py [PROGRAM]
 
 Counts the instructions of a take from a row of 200 edges and from one of 20,000, under valgrind, and says whether the second is at
-most 1.5 times the first. An index that is there and never asked meets every contract, since a walk along the row finds the same:
-here it shows. For each row two scripts are run, one that makes the row and one that takes from it then too; their difference over the
-number of takes is what one costs. The takes go over names that stand all along the row, and are the same number each time, so the
-row of the taker is as long in both.
+most 1.5 times the first. An index that is there and never asked meets every contract, since a walk along the row finds the same: here
+it shows. For each row two scripts are run, one that makes the row and one that takes from it then too. Their difference over the
+number of takes is what one costs. The takes go over names that are all along the row, and are the same number each time, so the row
+of the taker is as long in both.
 
 PROGRAM is crates/tgstore/out/tgstore unless it is given. Exit status 1 where takes from the long row cost more, or a run ended
 otherwise than it is to. Where valgrind isn't here, nothing is run."""
@@ -29,7 +29,7 @@ def making(size: int) -> list[str]:
 
 
 def taking(size: int) -> list[str]:
-    """Takes of names that stand all along the row."""
+    """Takes of names that are all along the row."""
     step = size // NAMES
     return [f"1 take 0 {2 + i % NAMES * step} r" for i in range(TAKES)]
 
@@ -43,7 +43,7 @@ def of_one_take(program: str, size: int) -> float:
 
 
 def count(asked: Namespace) -> int:
-    """Prints both counts; returns the status."""
+    """Prints both counts. Returns the status."""
     short, long = (of_one_take(asked.program, size) for size in (SHORT_ROW, LONG_ROW))
     failed = long > MOST_TIMES * short
     told = f"a take from a row of {SHORT_ROW}: {short:.0f} instructions; of {LONG_ROW}: {long:.0f}, {long / short:.2f} times as many"

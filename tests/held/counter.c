@@ -22,7 +22,7 @@ void *__libc_realloc(void *at, size_t size);
 void *__libc_memalign(size_t alignment, size_t size);
 void __libc_free(void *at);
 
-/* What stands in front of each piece. It is as long as malloc's own alignment. */
+/* What is in front of each piece. It is as long as malloc's own alignment. */
 struct header {
     uint64_t size;
     uint64_t mark; /* MARK, and how far in front of the piece its room begins */
@@ -73,7 +73,7 @@ static int is_refused(size_t size) {
     return size > PTRDIFF_MAX || number == refuse_at;
 }
 
-/* The piece behind its header, that begins so far behind the room. */
+/* The piece after its header, that begins so far after the room. */
 static void *taken(char *room, size_t front, size_t size) {
     if (!room)
         return NULL;
@@ -181,7 +181,7 @@ static uint64_t number_in(const char *name) {
     return text ? strtoull(text, NULL, 10) : 0;
 }
 
-/* The program may end without any destructor, so what is told stands in the file from the first on. */
+/* The program may end without any destructor, so what is told is in the file from the first on. */
 __attribute__((constructor)) static void begin(void) {
     const char *path = getenv("HELD_TELL");
     int file = path ? open(path, O_RDWR) : -1;

@@ -1,4 +1,5 @@
 """Each request for memory that tgaudit, tgcould and tgdot make, refused in turn: tests/held/run tries them."""
+import hashlib
 import os
 import re
 import subprocess
@@ -10,6 +11,7 @@ PART = (
     b"kovshenul picture 1\nmade 9 99 7\nworker 2\nvertex 2 c1\nvertex 7 l4:1,2\nedge 2 7 rl\npicture 3\n"
     b"2 append 7 3 = ok\n2 create r c0 = ok 9\nentries 2\n"
 )
+SUMMED = PART.replace(b"picture 3\n", b"picture 3\nsha256 %s\n" % hashlib.sha256(b"").hexdigest().encode())
 LISTED = 400
 LISTING = b"".join([
     b"kovshenul entries 1\nopening 1 900\nworker c0\n",
@@ -34,6 +36,7 @@ RUNS = [
     Runs("tgaudit", [], TEXT.replace(b"ok 0", b"ok 1")),
     Runs("tgaudit", ["--snapshot"], TEXT),
     Runs("tgaudit", ["--snapshot"], PART),
+    Runs("tgaudit", ["--after", "/dev/null"], SUMMED),
     Runs("tgaudit", [], PART.replace(b"vertex 7", b"vertex 9")),
     Runs("tgaudit", ["--help"], b""),
     Runs("tgaudit", ["--unknown"], b""),

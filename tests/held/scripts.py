@@ -34,7 +34,7 @@ def creates(count, rights="r", worker=0):
 
 
 def alone_in_blocks(count):
-    """Objects of which each comes to stand alone in a block of old cells."""
+    """Objects of which each comes to be alone in a block of old cells."""
     return ["0 create rg", "minor"] * count + ["minor"]
 
 
@@ -206,24 +206,24 @@ def a_long_command_line():
 
 
 def a_line_too_long():
-    """What is behind the line that ends the run isn't run, and its boxes are given back."""
+    """What is after the line that ends the run isn't run, and its boxes are given back."""
     return Script("--workers 1 --stock l100", creates(40) + ["full", "0 list " + "x" * 300, *creates(40)], status=1)
 
 
 def a_read_fails_once():
-    """What was read before it is answered, and what is behind it isn't read."""
+    """What was read before it is answered, and what is after it isn't read."""
     return Script("--workers 1", ["0 list", "0 read 0"] * 20_000, status=1, failed_read=3)
 
 
 def a_write_fails_once():
-    """What was put before it is written as the run ends, and nothing is run behind it."""
+    """What was put before it is written as the run ends, and nothing is run after it."""
     return Script("--workers 1", ["0 list", "0 read 0"] * 20_000, status=1, failed_write=3)
 
 
 def one_request_is_refused():
-    """One line is refused for want of memory, and all behind it are served."""
+    """One line is refused for lack of memory, and all after it are served."""
     lines = [line for turn in range(100) for line in ("0 create rw", f"0 write {1 + turn} 7", "0 list", "full")]
-    return Script("--workers 1 --stock l200", lines, refused=1_008)
+    return Script("--workers 1 --stock l200", lines, refused=1_013)
 
 
 def a_collection_of_the_nurseries_is_refused():
@@ -239,7 +239,7 @@ def a_collection_by_helpers_is_refused():
 
 
 def a_session_of_25_calls():
-    """A worker whose session has its 25 calls behind it when it spawns, and one that spawns first."""
+    """A worker whose session has made its 25 calls when it spawns, and a worker that spawns first."""
     lines = ["0 read 1", "1 list"] * 25 + ["0 spawn rw", "0 list", "1 spawn r", "1 create r", "1 list"]
     return Script("--workers 2 --stock c8 --race", ["edge 0 1 r", *lines], (1, 2))
 
@@ -256,7 +256,7 @@ def a_race_of_12000_lines():
 
 
 def a_race_of_nobodys_boxes():
-    """Lines of workers that there are not, behind retires too, with a box for each, and more boxes than lines."""
+    """Lines of workers that there are not, after retires too, with a box for each, and more boxes than lines."""
     lines = ["9 create r", "0 create r", "8 spawn r"] * 200 + ["0 retire", *creates(100)]
     return Script("--workers 2 --stock l5000 --race", lines)
 

@@ -173,7 +173,7 @@ def first_difference(name: Sequence[str], program: Path, *parts: tuple[str, byte
 
 
 def shown(lines: Sequence[bytes], at: int) -> str:
-    """A line, or what stands for one that isn't there."""
+    """A line, or what represents one that isn't there."""
     return lines[at][:SHOWN].decode(errors="backslashreplace") if at < len(lines) else "(no line)"
 
 

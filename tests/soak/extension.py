@@ -3,8 +3,7 @@
 
 Plants a fault in Python's extension module, builds it, and runs the tests of Python and 150,000 calls of python.py over it, until one
 of these fails, crashes or hangs. Then it plants the next fault. With --only those alone whose name has the word. Exit status 1 if a
-fault isn't found. It wants the headers of Python 3.11 or later, a C compiler, and what bindings/build built.
-"""
+fault isn't found. It needs the headers of Python 3.11 or later, a C compiler, and what bindings/build built. """
 import argparse
 import os
 import shutil
@@ -68,7 +67,7 @@ def plant(folder, file, text, other):
 
 
 def found_by(folder):
-    """Which test finds the fault, and how it ends; or nothing."""
+    """Which test finds the fault, and how it ends, or nothing."""
     package = folder / "bindings" / "python"
     library = next((BINDINGS / "out").glob("libkovshenul.so.*"))
     environment = {**os.environ, "PYTHONPATH": str(package), "KOVSHENUL_LIBRARY": str(library), "KOVSHENUL_CTYPES": "0"}

@@ -1,11 +1,10 @@
 #!/usr/bin/env python3
 """hostile.py [PROGRAM] [--only WORD] [-- WORD ..]
 
-Runs the store on scripts of 1 MiB that are made to be slow, one after the other, and prints for each how many lines it has, how
-many bytes are written for it and the processor time of the whole program. No script has a `list`, whose replies may come to
-gigabytes, nor an `inspect` of a long row; but for those that say so none has a collection. Exit status 1 where a script took over a second, or ended otherwise
-than it is to. PROGRAM is crates/tgstore/out/tgstore unless it is given; with --only those cases alone whose name has the word. The words behind --
-are handed to the program too, as --race."""
+Runs the store on scripts of 1 MiB that are made to be slow, one after the other, and prints for each how many lines it has, how many bytes are written for it
+and the processor time of the whole program. No script has a `list`, whose replies may come to gigabytes, nor an `inspect` of a long row; but for those that
+say so none has a collection. Exit status 1 where a script took over a second, or ended otherwise than it is to. PROGRAM is crates/tgstore/out/tgstore unless
+it is given; with --only those cases alone whose name has the word. The words after -- are handed to the program too, as --race."""
 import collections
 import itertools
 import os
@@ -224,7 +223,7 @@ def a_line_without_an_end():
 
 
 def one_collection_and_old_rows():
-    """Half of the script makes a row, which a full collection moves to Old; what comes behind it is young and is remembered."""
+    """Half of the script makes a row, which a full collection moves to Old; what comes after it is young and is remembered."""
     size = 40_000
     rest = (f"0 remove {1 + i // 2} r" if i % 2 == 0 else "0 create r" for i in itertools.count())
     return Case("--workers 1 --stock c100000", creates(size) + ["full"], rest)

@@ -103,7 +103,7 @@ def each_read(script, way, what):
 
 
 def each_write(script, way, what, is_made_again):
-    """Does this to each write in turn: what was written before stands, and no more; or all, where the write is made again."""
+    """Does this to each write in turn: what was written before is, and no more, or all, where the write is made again."""
     for number in itertools.count(1):
         end, calls = traced(script, way, "write", f"{what}:when={number}")
         whole = script.wanted[" ".join(way)]
@@ -116,7 +116,7 @@ def each_write(script, way, what, is_made_again):
 
 
 def one_byte_a_write(script, way):
-    """Each write says that it took one byte; the bytes are those of the log."""
+    """Each write says that it took one byte. The bytes are those of the log."""
     end, calls = traced(script, way, "write", "retval=1")
     bytes_taken = bytes(int(shown[2:], 16) for shown, _ in calls)
     want(end == (0, b"", b"") and bytes_taken == script.wanted[" ".join(way)], way, end, bytes_taken)
@@ -208,7 +208,7 @@ def stopped_while_it_runs(script, way):
 
 
 def stopped_while_a_client_waits(script, way):
-    """Each line in two parts, with a stop before each of them or behind it; then its reply is waited for."""
+    """Each line in two parts, with a stop before each of them or after it. Then its reply is waited for."""
     process = subprocess.Popen([*script.words, *way], stdin=subprocess.PIPE, stdout=subprocess.PIPE, bufsize=0)
     lines = zip(script.text.splitlines(keepends=True), script.wanted[" ".join(way)].splitlines(keepends=True))
     for number, (line, reply) in enumerate(lines):

@@ -5,7 +5,7 @@ import re
 from collections.abc import Iterator
 from dataclasses import dataclass, field
 
-# A string, whose text may look like a comment; or a comment.
+# A string, whose text may look like a comment, or a comment.
 STRING_OR_COMMENT = re.compile(r'"(?:\\.|[^"\\])*"|//[^\n]*')
 FUNCTION = re.compile(r"\bfn (\w+)(?=[<(])")
 TYPE = re.compile(r"^\s*(?:pub(?:\(\w+\))? )?(?:struct|enum) (\w+)", re.M)
@@ -23,8 +23,8 @@ class Function:
 
 @dataclass(frozen=True)
 class Clause:
-    """A `requires` or `ensures`: the text between its braces, with each run of blanks as one; and whether it is the
-    last one of a function of a trait, behind which a semicolon stands."""
+    """A `requires` or `ensures`: the text between its braces, with each run of blanks as one, and whether it is the
+    last one of a function of a trait, after which a semicolon is."""
 
     text: str
     is_last_of_trait: bool
@@ -63,7 +63,7 @@ def past_generics(code: str, at: int) -> int:
 
 
 def parameters_at(code: str, opened: int) -> int:
-    """How many parameters stand between the bracket that is opened here and its end."""
+    """How many parameters are between the bracket that is opened here and its end."""
     depth, commas, is_last_empty = 0, 0, True
     for at in range(opened, len(code)):
         word = code[at]
@@ -106,7 +106,7 @@ NO_DEFINITION = (" ", "use ", "pub use ", "pub mod ", "mod ")
 
 @dataclass
 class Definitions:
-    """The definitions of a .antt file: their lines of code by their names, without comments; and of each word that it
+    """The definitions of a .antt file: their lines of code by their names, without comments, and of each word that it
     imports from specs, the crate, the file and the name there."""
 
     bodies: dict[str, list[str]] = field(default_factory=dict)

@@ -22,7 +22,7 @@ class Row:
         return f"{self.folder.parent.name}/{self.folder.name}"
 
     def stored(self, file: str) -> bytes:
-        """The bytes of a file, or of the pieces that stand for it. A file that is missing has none."""
+        """The bytes of a file, or of the pieces that represent it. A file that is missing has none."""
         path = self.folder / file
         if path.is_file():
             return path.read_bytes()

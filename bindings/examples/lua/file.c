@@ -12,7 +12,7 @@
    - Lua states: they are gone. Each script starts anew as the worker that it was. It has a handle to each object that it holds in
      its inbox. A script keeps in objects what it needs afterwards.
 
-   The file is made for this machine: it has structs as they lie in memory. A host whose machine may fail calls fsync too. */
+   The file is made for this machine. It has structs as they lie in memory. A host whose machine may fail calls fsync too. */
 #define _POSIX_C_SOURCE 200809L
 #include "host.h"
 #include <inttypes.h>

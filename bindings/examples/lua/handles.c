@@ -219,7 +219,7 @@ static void ask_policy(lua_State *state, const char *word, uint64_t holder, uint
         luaL_error(state, "%s is against the policy: %s", word, text);
 }
 
-/* handle:hand(plugin, rights). Plug-ins have no edge to each other. So the host hands on: it takes the rights from the giver,
+/* handle:hand(plugin, rights). Plug-ins have no edge to each other. So the host hands on. It takes the rights from the giver,
    who must have them, grants them to the other plug-in, and gives its own up. */
 static int handle_hand(lua_State *state) {
     struct plugin *from = plugin_of(state), *to = plugin_at(state, 2);
@@ -298,7 +298,7 @@ static int handle_text(lua_State *state) {
     return 1;
 }
 
-/* Leaves a handle to a vertex that the worker holds since before the host was killed, by rising names; or nothing. */
+/* Leaves a handle to a vertex that the worker holds since before the host was killed, by rising names, or nothing. */
 static int receive_again(lua_State *state) {
     struct plugin *plugin = plugin_of(state);
     uint64_t *vertex;

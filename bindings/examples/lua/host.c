@@ -6,7 +6,7 @@
    Each plug-in is the script FOLDER/NAME.lua. The first one gets to read the host's secret. The plug-in named after --never must
    never come to read it, whatever the plug-ins do together. docs/LUA.md explains the host file by file.
 
-   With --file the host saves what it does. If it is killed, start it again with the same words: it goes on from FILE. The host
+   With --file the host saves what it does. If it is killed, start it again with the same words. It goes on from FILE. The host
    removes FILE at its end. */
 #include "host.h"
 #include <inttypes.h>

@@ -40,7 +40,7 @@ struct plugin *plugin_named(const char *name) {
 
 /* ---- bounds */
 
-/* The allocator of a plug-in's state: it refuses what goes beyond the bound. Lua then collects, and may raise an error. */
+/* The allocator of a plug-in's state. It refuses what goes beyond the bound. Lua then collects, and may raise an error. */
 static void *allocate(void *context, void *block, size_t old, size_t size) {
     struct plugin *plugin = context;
     void *moved;

@@ -89,7 +89,7 @@ bool end_long(struct state *state);
 /* There are so many arguments. */
 bool has_words(Py_ssize_t count, Py_ssize_t wanted);
 
-/* The number that an argument stands for, which must have at most 64 bits. */
+/* The number that an argument represents, which must have at most 64 bits. */
 bool number_of(struct state *state, PyObject *word, uint64_t *number);
 
 /* Exactly so many arguments, each a number. */

@@ -3,7 +3,7 @@
 
 #include "extension.h"
 
-/* Room for so many items, and at least for one; or NULL with a MemoryError. */
+/* Room for so many items, and at least for one, or NULL with a MemoryError. */
 static void *room_for(uint64_t count, size_t size) {
     void *room = count > SIZE_MAX / size ? NULL : PyMem_Malloc(count == 0 ? size : (size_t)count * size);
     if (room == NULL)

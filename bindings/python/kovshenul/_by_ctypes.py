@@ -43,7 +43,7 @@ UNSERVED = 2**64 - 1
 SHOWING = [number for number, deed in DEEDS.items() if deed in (Listed, Inspect)]
 SHOWN = next(number for number, reply in REPLIES.items() if reply is Edges)
 
-# A target of a pair, and rights by their bits, with no call of Python's in between; and the type that a method of Store hides.
+# A target of a pair, and rights by their bits, with no call of Python's in between, and the type that a method of Store hides.
 target_of = partial(tuple.__new__, Target)
 rights_of = RIGHTS.__getitem__
 list_of = list

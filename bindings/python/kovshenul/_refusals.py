@@ -88,12 +88,14 @@ class Refused(Error):
 
     status: int = 0
     at: Optional[int] = None
-    """The place of the entry from which a store didn't go on (`Store.resume`, `Store.go_on`); else None."""
+    """The place of the entry from which a store didn't go on (`Store.resume`, `Store.go_on`). Otherwise
+    None."""
     replies: Optional[Sequence[object]] = None
-    """The replies to the commands of a batch that are done, where a later one was refused (`Store.apply_all`); else None."""
+    """The replies to the commands of a batch that are done, where a later one was refused (`Store.apply_all`). Otherwise
+    None."""
 
     line: Optional[int] = None
-    """The first line at fault in a text, counted from 1 (`Snapshot`); else None."""
+    """The first line at fault in a text, counted from 1 (`Snapshot`). Otherwise None."""
 
     def __init__(self, status: Optional[int] = None, text: str = "") -> None:
         if status is not None:
@@ -142,7 +144,7 @@ class WorkersFull(Refused):
 
 
 class NoSuchWorker(Refused, LookupError):
-    """No active worker has the name: it was never spawned, it is an object, or it retired."""
+    """No active worker has the name. It was never spawned, it is an object, or it retired."""
 
     status = 48
 
@@ -200,7 +202,7 @@ class BadEntry(Refused):
 
 
 class BadPlace(Refused, IndexError):
-    """The journal holds no entry at the place: it wasn't made yet, or it was given up. An entry to go on from isn't the next."""
+    """The journal holds no entry at the place. It wasn't made yet, or it was given up. An entry to go on from isn't the next."""
 
     status = 97
 

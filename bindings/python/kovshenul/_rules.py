@@ -243,8 +243,8 @@ class Future:
     """All that those who act can bring about, by a closure.
 
     Each of them makes two objects and a subject. Then they and the new subjects take and grant for as long as that adds a right. A right
-    that is missing at the end never comes: a further object or subject could do what those of its maker did, and nothing else. There
-    are two objects so that one may stand for x and the other for y.
+    that is missing at the end never comes: a further object or subject could do what those of its maker did, and nothing else. There are
+    two objects so that one may represent x and the other y.
 
     The closure is a run of the rules, which shows the turns by which a right comes. It has as many names and subjects as it needs, with
     one exception. Nobody is spawned if 64 subjects are active and one of them acts, because nobody else can retire.
@@ -293,7 +293,7 @@ class Future:
         self.moves.append((x, command, (y, z, added)))
 
     def comes(self, x: int, right: int, y: int) -> Optional[Tuple[int, int]]:
-        """The two vertices of the closure that stand for x and y, if x could come to hold the right over y. Each new object may stand for
+        """The two vertices of the closure that represent x and y, if x could come to hold the right over y. Each new object may represent
         a name that isn't made yet."""
         if x == y or max(x, y) >= self.limit:
             return None

@@ -63,7 +63,7 @@ class Store(Held, Marked):
         """Opens a store that goes on from the entries of another one, which was opened with the same workers, edges and
         `max_vertices`. They begin at the first entry.
 
-        The store does the deed of each entry again, and compares the replies. So nobody has to believe the entries: they are a
+        The store does the deed of each entry again, and compares the replies. So nobody has to believe the entries. They are a
         legal history of this opening. The store then gives each later reply as the other one would. It raises what `go_on`
         raises, and the store is closed then. Entries have no marks of the host: `trusted` are workers after the last entry.
         """
@@ -79,11 +79,10 @@ class Store(Held, Marked):
     def go_on(self, at: int, entries: Iterable[Entry]) -> None:
         """Goes on from the entries of another store, of which the first has this place. Any store may, also one that took commands.
 
-        The `at` of what it raises is the place of the entry at which it stopped. BadValues: no store makes such an entry.
-        BadPlace: it isn't the next. BadEntry: it isn't legal, since it was altered or is of another opening; the store is closed
-        then. OutOfMemory, HeapFull: there is no room for it, also after a full collection. But after BadEntry the store has all
-        entries before that place, and goes on from there.
-        """
+        The `at` of what it raises is the place of the entry at which it stopped. It raises BadValues if no store makes such an
+        entry, and BadPlace if it isn't the next. It raises BadEntry if the entry isn't legal, because it was altered or is of
+        another opening. The store is closed then. It raises OutOfMemory or HeapFull if there is no room for it, also after a
+        full collection. After any of these but BadEntry the store has all entries before that place, and goes on from there. """
         for place, entry in enumerate(entries, at):
             packed = entry_in(entry)
             try:

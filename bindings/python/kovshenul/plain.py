@@ -1,4 +1,4 @@
-"""The model of the store in plain Python, to test a host against: `plain.Store(..)` stands in for `kovshenul.Store(..)`.
+"""The model of the store in plain Python, to test a host against: `plain.Store(..)` replaces `kovshenul.Store(..)`.
 
     def use(store):
         ...                                     # the calls that the host makes
@@ -438,7 +438,7 @@ class View(_Held):
         self.closed = False
 
     def could(self, x: int, right: int, y: int) -> Chance:
-        """That x never comes to hold the right over y; that no worker reached x; or Perhaps, which says nothing."""
+        """That x never comes to hold the right over y; that no worker reached x, or Perhaps, which says nothing."""
         x, right, y = numbers_in(x, right, y)
         must_be_one(right)
         self._must_be_open()

@@ -47,7 +47,7 @@ NUMBERS = [
 VALUES = [Cell(0), Sum(BIG - 1), Max(3), Log(1), Log(64), Log(0), Log(65), Log(2**32 - 1)]
 NO_VALUES = [Cell, Value, *NO_NUMBERS, *NUMBERS]
 SHORT = {"collect"}
-# How many numbers each takes, and whether a value comes behind.
+# How many numbers each takes, and whether a value comes after.
 TAKES = {
     "take": (4, False),
     "grant": (4, False),
@@ -70,7 +70,7 @@ TAKES = {
 
 
 def number_of(argument):
-    """The number that an argument stands for, or nothing."""
+    """The number that an argument represents, or nothing."""
     try:
         return int.__index__(argument) if isinstance(argument, int) else int.__index__(argument.__index__())
     except (AttributeError, TypeError):

@@ -1,4 +1,4 @@
-"""The journal of a store, read back: it says what was called and what was answered."""
+"""The journal of a store, read back. It says what was called and what was answered."""
 import pickle
 import random
 import unittest
@@ -75,7 +75,7 @@ def drawn(rng, kind):
 
 
 def called(store, worker, deed):
-    """Makes the call that the deed stands for, and answers what is to stand in the journal, or nothing."""
+    """Makes the call that the deed represents, and answers what is to be in the journal, or nothing."""
     call = getattr(store, type(deed).__name__.lower())
     try:
         answer = call(worker, *vars(deed).values())

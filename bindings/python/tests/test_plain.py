@@ -413,7 +413,7 @@ class Surface(unittest.TestCase):
         self.assertFalse([line for line in imports if line.startswith("from .") or "ctypes" in line])
 
 
-# Wrong rules of the model: where, which text of the rule, and what stands in its place.
+# Wrong rules of the model: where, which text of the rule, and what is in its place.
 Graph, Stored, Future = _rules.Graph, _rules.Stored, _rules.Future
 WRONG_RULES = {
     "a take asks for g": (Graph.take, "x, y, TAKE", "x, y, GRANT"),

@@ -147,7 +147,7 @@ pub enum Error {
     VerticesFull,
     /// 64 workers are active.
     WorkersFull,
-    /// No active worker has the name: it was never spawned, it is an object, or it retired.
+    /// No active worker has the name. It was never spawned, it is an object, or it retired.
     NoSuchWorker,
     /// No right; several rights, where one is asked about.
     BadRights,
@@ -167,7 +167,7 @@ pub enum Error {
     /// An entry isn't legal after the opening of the auditor, or of the store that goes on from it. It was altered, or the other
     /// store was opened by other workers, edges or limits.
     BadEntry,
-    /// The journal holds no entry at the place: it wasn't made yet, or it was given up. An entry to go on from isn't the next.
+    /// The journal holds no entry at the place. It wasn't made yet, or it was given up. An entry to go on from isn't the next.
     BadPlace,
     /// The journal hasn't all entries since the opening, so that they can't be audited: some were given up, or the store goes on
     /// from a snapshot.

@@ -22,7 +22,7 @@ const SHORT_ROW: usize = 64;
 /// A call that only looks takes `&self`. It makes no entry and changes nothing. A read, a list and an inspect are commands
 /// with an entry in the journal, so they take `&mut self`.
 ///
-/// Any thread may have a store, and one at a time: it is `Send`, and not `Sync`. With a lock around it, many threads call
+/// Any thread may have a store, and one at a time. It is `Send`, and not `Sync`. With a lock around it, many threads call
 /// it in turn.
 ///
 /// ```

@@ -1,4 +1,4 @@
-//! The journal of a store, read back: it says what was called and what was answered.
+//! The journal of a store, read back. It says what was called and what was answered.
 use kovshenul::{
     end_text, opening_text, Auditor, BatchStopped, Deed, Denial, Edge, Entry, Error, Limits, NoSnapshot, Reply, Rights, Rule, Snapshot,
     Stopped, Store, Target, Value,
@@ -31,7 +31,7 @@ fn auditor(max_vertices: u64) -> Auditor {
     Auditor::open(&WORKERS, &edges(), &limits(max_vertices)).unwrap()
 }
 
-// Makes the call that a deed stands for, and answers what is to stand in the journal.
+// Makes the call that a deed represents, and answers what is to be in the journal.
 fn call(store: &mut Store, worker: u64, deed: Deed) -> Reply {
     let answer = match deed {
         Deed::Take { via, target, rights } => store.take(worker, via, target, rights).map(|()| Reply::Done),

@@ -14,7 +14,7 @@ from repository.unproved import QUIETLY
 from .answers import ANSWERS, INVARIANTS
 from .source import is_end_of
 
-# The processor seconds that a search may take; and those that a check may take beside its searches.
+# The processor seconds that a search may take, and those that a check may take beside its searches.
 LIMIT, BESIDE = 60, 240
 
 # A function that was checked. What was read before the first is none of its own.
@@ -26,7 +26,7 @@ PROVED = re.compile(
     r"(?:no holes|proved)$|no proof: it calls `[^;]*$|depends on a hole in (?:`|the same \d+ declarations as `)"
 )
 
-# An answer that doesn't fit, by its file and its goal; and answers that use what is gone.
+# An answer that doesn't fit, by its file and its goal, and answers that use what is gone.
 MISFIT = re.compile(r"^\./proofs/(\S+)/([\w.]+):\d+:\d+: error: (?:`([^`]+)`: |.* was not checked: (.*)$)", re.M)
 
 
@@ -40,7 +40,7 @@ class FunctionReport:
     seconds: float = 0
     open_goals: list[str] = field(default_factory=list)
     misfits: set[str] = field(default_factory=set)
-    # why nothing is said of it; and the clauses that have to refuse a mutant there, as goals name them
+    # why nothing is said of it, and the clauses that have to refuse a mutant there, as goals name them
     error: str = ""
     clauses: tuple[str, ...] = ()
 

@@ -1,4 +1,4 @@
-"""A mutant as it stands in its file. The manual of `tests/mutants/run` gives the form."""
+"""A mutant as it is in its file. The manual of `tests/mutants/run` gives the form."""
 import re
 from collections.abc import Callable
 from dataclasses import dataclass
@@ -15,7 +15,7 @@ SOURCE = ("old", "new")
 
 @dataclass(frozen=True)
 class Edit:
-    """A text that stands once in the file, and the text that takes its place. The line is that of the old text."""
+    """A text that is once in the file, and the text that takes its place. The line is that of the old text."""
 
     file: str
     old: str

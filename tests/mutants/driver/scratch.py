@@ -1,4 +1,4 @@
-"""A scratch copy of a crate in which mutants are planted, each in a copy of its function if it can stand beside it."""
+"""A scratch copy of a crate in which mutants are planted, each in a copy of its function if it can be beside it."""
 import re
 import shutil
 from dataclasses import dataclass
@@ -18,7 +18,7 @@ NO_SEARCH = "#[tactic(none)]\n"
 
 @dataclass(frozen=True)
 class Trial:
-    """A mutant as it is tried without some of the answers of its function, alone or beside its right function; or the
+    """A mutant as it is tried without some of the answers of its function, alone or beside its right function, or the
     right function in the same way. If it isn't searched, only its answers are checked."""
 
     mutant: Mutant
@@ -31,8 +31,8 @@ class Trial:
 
 @dataclass(frozen=True)
 class Standing:
-    """Where a trial stands in a scratch copy: the path of its function there, and the clauses that have to refuse it,
-    as its goals name them."""
+    """Where a trial is in a scratch copy: the path of its function there, and the clauses that have to refuse it, as
+    its goals name them."""
 
     trial: Trial
     function: str
@@ -74,8 +74,8 @@ def has_answers(tree: Tree, mutant: Mutant) -> bool:
 
 
 def plant(tree: Tree, room: Path, trials: list[Trial]) -> tuple[Path, list[Standing]]:
-    """Copies the crate of these trials into the room, each in a copy of its function; or one alone in the place of its
-    function. Returns the folder and where they stand. All that isn't checked is taken as it is stated."""
+    """Copies the crate of these trials into the room, each in a copy of its function, or one alone in the place of its
+    function. Returns the folder and where they are. All that isn't checked is taken as it is stated."""
     mutant = trials[0].mutant
     folder = tree.copy_crate(mutant.crate, room)
     standing, copies = [], {}
@@ -112,7 +112,7 @@ def keep_answers(path: Path, aside: frozenset[str], left_out: set[str]) -> None:
 
 
 def with_proof(tree: Tree, folder: Path, trial: Trial, copy: Copy, number: int) -> tuple[list[str], Standing]:
-    """The lines of a copy of a function, and where it stands. Its proof is put into the folder. The copy has only the
+    """The lines of a copy of a function, and where it is. Its proof is put into the folder. The copy has only the
     clauses that have to refuse the mutant: the others aren't searched for."""
     mutant, function = trial.mutant, copy.function
     name = f"{function.name}_{number}"

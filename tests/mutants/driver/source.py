@@ -1,5 +1,5 @@
-"""The functions of a crate as they stand in its files, by the paths that the checker has for them and for the folders
-of their proofs; and the parts of a function's text."""
+"""The functions of a crate as they are in its files, by the paths that the checker has for them and for the folders
+of their proofs, and the parts of a function's text."""
 import re
 from collections.abc import Iterator
 from dataclasses import dataclass
@@ -21,7 +21,7 @@ UNNAMED = "ensures"
 
 @dataclass(frozen=True)
 class Function:
-    """A function that stands alone, or in an `impl` of a type of its own, and not in one of a trait."""
+    """A function that is alone, or in an `impl` of a type of its own, and not in one of a trait."""
 
     path: str
     file: str
@@ -58,7 +58,7 @@ def functions_of(source: Path) -> list[Function]:
 
 
 def standing_in(lines: list[str]) -> Iterator[tuple[str, str, int, int]]:
-    """Of each function in these lines the type in whose `impl` it stands, the name, and its lines."""
+    """Of each function in these lines the type in whose `impl` it is, the name, and its lines."""
     owner: str | None = ""
     for number, line in enumerate(lines):
         owner = owner_at(line, owner)
@@ -94,7 +94,7 @@ def calls_itself(owner: str, name: str, lines: list[str]) -> bool:
 
 
 def head_in(lines: list[str]) -> tuple[int, str]:
-    """Where the head of a function stands in its lines, and its indent."""
+    """Where the head of a function is in its lines, and its indent."""
     first = next(number for number, line in enumerate(lines) if re.search(r"\bfn \w+", line))
     return first, re.match(" *", lines[first])[0]
 

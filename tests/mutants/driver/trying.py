@@ -43,7 +43,7 @@ class Run:
         return check(self.tree, self.libraries, crate, folder, functions)
 
     def try_mutants(self, kept: Kept, mutants: list[Mutant]) -> bool:
-        """Tries these mutants, and reports what became of them. Returns whether all came out as wanted."""
+        """Tries these mutants, and reports what became of them. Returns whether all came out as expected."""
         words = ["git", "-C", str(self.tree.top), "rev-parse", "HEAD"]
         commit = subprocess.run(words, capture_output=True, text=True, check=False).stdout.strip()
         due = drawn(kept.due(self.tree, mutants), commit) if self.is_limited else mutants
@@ -59,7 +59,7 @@ class Run:
         return report(verdicts)
 
     def try_group(self, group: list[Mutant]) -> list[Verdict]:
-        """The verdicts on a group, each of which is reported; none if the time is up."""
+        """The verdicts on a group, each of which is reported. There is none if the time is up."""
         began = self.used
         if began + self.dearest > (LIMIT if self.is_limited else inf):
             return []
@@ -72,7 +72,7 @@ class Run:
 
 
 def report(verdicts: list[Verdict]) -> bool:
-    """Reports what isn't as wanted, and how many are. Returns whether all are."""
+    """Reports what isn't as expected, and how many are. Returns whether all are."""
     counts = Counter(verdict.outcome for verdict in verdicts)
     bad = [verdict for outcome in UNWANTED for verdict in verdicts if verdict.outcome == outcome]
     for verdict in bad:

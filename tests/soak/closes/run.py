@@ -3,7 +3,7 @@
 
 It builds the program beside it (`main.rt.in`), unproved, with the crates that it needs. One worker spawns so many subjects, who retire, and
 the sessions are put in no order. What a run with a close counts more than one without is the close's, with the drop of the sessions and of
-the store in both. It wants valgrind and a C compiler."""
+the store in both. It needs valgrind and a C compiler."""
 import argparse
 import sys
 import tempfile
@@ -34,7 +34,7 @@ def of_close(program: Path, sessions: int) -> int:
 
 
 def main() -> int:
-    """Prints both counts; returns the status."""
+    """Prints both counts. Returns the status."""
     argparse.ArgumentParser(usage=__doc__).parse_args()
     with tempfile.TemporaryDirectory() as room:
         program = build_beside(USES, HERE / "main.rt.in", Path(room) / "closes")

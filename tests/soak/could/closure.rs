@@ -76,7 +76,7 @@ fn text(graph: &Graph, x: usize, y: usize) -> String {
     "rtg".chars().filter(|c| held.contains(*c)).collect()
 }
 
-// A name as it is written, where so many were made at first; and back.
+// A name as it is written, where so many were made at first, and back.
 fn written(apart: usize, made: usize, name: usize) -> usize {
     if name < made { name * apart } else { made * apart + name - made }
 }

@@ -3,10 +3,10 @@
 
 A script has 2 to 4 workers and up to 14 lines; of each graph that one leaves some twenty questions are asked, with random silent
 subjects, and edges that are only supposed. Up to 130 names are left, and some questions are about names that aren't made yet. The
-plain program makes objects and a subject for each who acts and does all takes and grants to the end, by the rules written out
-here. Whoever holds a right then could; whoever doesn't never does. Each witness is run behind its script by these rules, and by
-tgstore, which has to list the right where x is an active subject. Names more may be wanted only where names are short. The programs
-are those that 'rt run' built."""
+plain program makes objects and a subject for each who acts and does all takes and grants to the end, by the rules written out here.
+Whoever holds a right then could; whoever doesn't never does. Each witness is run after its script by these rules, and by tgstore,
+which has to list the right where x is an active subject. Names more may be wanted only where names are short. The programs are
+those that 'rt run' built."""
 
 import argparse
 import random
@@ -194,7 +194,7 @@ class Checker:
         return words + (["--stock", f"c{boxes}"] if boxes else [])
 
     def answers(self):
-        """Each answer: its word, and the lines behind it."""
+        """Each answer: its word, and the lines after it."""
         words = self.words(TGCOULD, self.graph.limit, self.boxes)
         words += [word for name in sorted(self.silent) for word in ("--silent", str(name))]
         words += [word for edge in self.supposed for word in ("--as-if", edge)] + [word for text in self.asked for word in ("--ask", text)]
@@ -229,7 +229,7 @@ class Checker:
         assert told == len(self.asked), (told, self.asked)
 
     def listed(self, asked):
-        """The names that a star may stand for, beside how each is written: those that were made, and as `new` one that is made later
+        """The names that a star may represent, beside how each is written: those that were made, and as `new` one that is made later
         and isn't asked about."""
         made = self.graph.made
         return [*((name, str(name)) for name in range(made)), (made + 1 if asked == made else made, "new")]

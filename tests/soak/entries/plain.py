@@ -76,7 +76,7 @@ def denial_of(why: Denial) -> str:
 
 
 def answer(graph: Graph, x: int, rule: str, words: List[str]) -> str:
-    """What the rules answer; the graph becomes the next one."""
+    """What the rules answer. The graph becomes the next one."""
     asked = [int(it) if it.isdigit() else read_value(it) or rights_of(it) for it in words]
     try:
         answered = getattr(graph, rule)(x, *asked)

@@ -1,8 +1,8 @@
 #!/usr/bin/env python3
 """Has the built tgaudit audit what tgstore answers to the stored scripts: tests/soak/entries/stored.py
 
-Of each row of tests/runs/scripts the text of its history is put together out of the lines, the replies that are stored, and the boxes of its stock; it
-must pass. A collection has no entry, and neither has a line that was refused, but for want of vertices or of room for a subject."""
+Of each row of tests/runs/scripts the text of its history is put together out of the lines, the replies that are stored, and the boxes of its stock. It
+must pass. A collection has no entry, and neither has a line that was refused, but for lack of vertices or of room for a subject."""
 import argparse
 import re
 import subprocess

@@ -91,7 +91,7 @@ class Race:
             self.first = self.first.with_edge(int(x), int(y), self.first.held(int(x), int(y)) + rights)
 
     def after(self, world, x, words, box):
-        """The reply to the worker's line, and the world behind it."""
+        """The reply to the worker's line, and the world after it."""
         rule, *rest = words
         if rule == "minor":
             return "ok", world
@@ -167,7 +167,7 @@ def has_order(race):
 
 
 def told_at_once(race, at, world, steps):
-    """Behind the lines that change nothing and get their replies here. To take them at once is no loss: no other reply depends on it."""
+    """After the lines that change nothing and get their replies here. To take them at once is no loss: no other reply depends on it."""
     at, x = list(at), 0
     while x < len(at):
         steps += 1

@@ -61,7 +61,7 @@ def listings(vertices, lists):
 
 
 def logs(vertices, writes):
-    """Logs that grow by writes and by appends in turn, are read and are given up, with a collection behind each."""
+    """Logs that grow by writes and by appends in turn, are read and are given up, with a collection after each."""
     lines = []
     for i in range(vertices):
         lines.append("0 create rwga")
@@ -131,11 +131,11 @@ def knows(way, program=PROGRAM):
 
 
 def what_is_wrong(script, way, run, program=PROGRAM):
-    """Why the run isn't one that want of memory may leave, or None.
+    """Why the run isn't one that lack of memory may leave, or None.
 
-    With status 1 one line stands on standard error and nothing was answered. With status 0 each line has its reply, and
-    the lines that were not refused are answered as in a run of them alone. Of a race there has to be an order in which they
-    get their replies (orders.py), and its end has their number of entries; of one with many lines, only that each has its reply."""
+    With status 1 one line is on standard error and nothing was answered. With status 0 each line has its reply, and the lines
+    that were not refused are answered as in a run of them alone. Of a race there has to be an order in which they get their replies
+    (orders.py), and its end has their number of entries; of one with many lines, only that each has its reply."""
     if run.status == 1:
         is_told = len(run.faults) == 2 and run.faults[0].startswith(b"tgstore: ") and run.faults[1] == b""
         return None if is_told and run.replies == [b""] else f"status 1, with {run.faults} and {run.replies[:3]}"

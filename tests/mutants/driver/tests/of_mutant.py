@@ -67,7 +67,7 @@ class FileOfAMutant(InARoom):
 
 
 class MutantsOfATree(InARoom):
-    """They stand in the folders of crates, and each has a name of its own."""
+    """They are in the folders of crates, and each has a name of its own."""
 
     def test_the_mutants_of_all_crates_are_found(self):
         self.put({"crates.txt": "high: low\nlow:\n", "crates/low/mutants/one.edit": WHAT + EDIT})

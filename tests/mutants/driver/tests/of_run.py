@@ -66,7 +66,7 @@ class WhatIsDue(OfASmallCrate):
 
 
 class WhatIsTried(OfASmallCrate):
-    """All mutants; or those that are due, within a time."""
+    """All mutants, or those that are due, within a time."""
 
     def run_of(self, names: str, is_limited: bool, seconds: list[float]) -> str:
         """What is reported of mutants that are refused, if the clock of processor time shows these seconds."""

@@ -1,4 +1,4 @@
-"""Where functions stand, and what stands in a scratch copy of a crate."""
+"""Where functions are, and what is in a scratch copy of a crate."""
 import unittest
 
 from repository.tree import read_text
@@ -36,7 +36,7 @@ class InAScratchCopy(OfASmallCrate):
     """What is checked, and what is taken as it is stated."""
 
     def planted(self, *trials: Trial) -> tuple[dict[str, str], list[Standing]]:
-        """The files of the scratch copy, and where the trials stand."""
+        """The files of the scratch copy, and where the trials are."""
         folder, standing = plant(self.tree, self.top / "room", list(trials))
         files = [path for path in folder.rglob("*") if path.is_file()]
         return {str(path.relative_to(folder)): read_text(path) for path in files}, standing

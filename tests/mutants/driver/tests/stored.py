@@ -81,13 +81,13 @@ class OfASmallCrate(InARoom):
         self.put({f"crates/small/{file}": text for file, text in files.items()})
         self.put({"crates.txt": "small: # no library\n"})
         self.tree = Tree(self.top)
-        # what is said in each check in turn, and when its first lines came; and what was checked: functions and files
+        # what is said in each check in turn, and when its first lines came, and what was checked: functions and files
         self.says: list[str] = []
         self.seconds: list[float] = []
         self.asked: list[tuple[list[str], dict[str, str]]] = []
 
     def check(self, _crate: str, folder: Path, functions: list[str]) -> Report:
-        """What is to be said of these functions: `{0}` stands for the first, `{1}` for the second."""
+        """What is to be said of these functions: `{0}` represents the first, and `{1}` the second."""
         files = [path for path in folder.rglob("*") if path.is_file()]
         self.asked.append((functions, {str(path.relative_to(folder)): read_text(path) for path in files}))
         output = self.says.pop(0).format(*functions)
