@@ -68,7 +68,7 @@ impl<D: Disk, P: Payload> Kept<D, P> {
         &self.store
     }
 
-    /// Takes a worker's commands one after the other, as [`Store::apply_all`] does. Then puts the lines of their entries
+    /// Takes the commands of a worker in turn, as [`Store::apply_all`] does. Then puts the lines of their entries
     /// into the file, by one write and one sync. `Ok` is returned after the sync, and from then on a crash leaves all
     /// entries. The replies are in the last entries of the journal. If a command was refused, `ended` has the reason,
     /// and the entries of the commands before it are on the disk.

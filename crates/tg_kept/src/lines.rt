@@ -27,11 +27,7 @@ enum Said<'a> {
 
 /// Makes the lines of entries, in their order, which come after a line with the sum `before`. Fails only if memory runs
 /// out.
-pub fn entry_lines(
-    alloc: Global,
-    before: LineSum,
-    entries: &[Entry],
-) -> Result<Batch, AllocError>
+pub fn entry_lines(alloc: Global, before: LineSum, entries: &[Entry]) -> Result<Batch, AllocError>
     ensures texts { IfOk result (λ batch. batch_texts batch ≡ map entry_line entries.now) }
     ensures before { IfOk result (λ batch. batch.before ≡ before) }
 {
@@ -40,11 +36,7 @@ pub fn entry_lines(
 
 /// Makes the lines of an opening, which come after a line with the sum `before`. They are its limits, the value of each
 /// worker and each edge. Fails only if memory runs out.
-pub fn opening_lines(
-    alloc: Global,
-    before: LineSum,
-    opening: &Opening,
-) -> Result<Batch, AllocError>
+pub fn opening_lines(alloc: Global, before: LineSum, opening: &Opening) -> Result<Batch, AllocError>
     ensures texts { IfOk result (λ batch. batch_texts batch ≡ opening_lines opening.now) }
     ensures before { IfOk result (λ batch. batch.before ≡ before) }
 {
