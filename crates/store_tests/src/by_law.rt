@@ -1,9 +1,8 @@
 //! Stores of payloads by law.
 use crate::opened::opening_with;
 use std::alloc::Global;
-use tg_model::{Edge, Opening};
-use tg_payload::{Draft, LawPayload, Payload};
-use tg_resume::{ByLaw, Part, ResumeStopped, resume};
+use tg_model::{Edge, Making, Opening};
+use tg_payload::{Draft, LawPayload};
 use tg_rights::{Label, Right, Rights};
 use tg_store::{Limits, Store};
 
@@ -53,42 +52,14 @@ pub(crate) fn open(alloc: Global, blocks: u64) -> Option<Store<LawPayload>> {
     Store::open(alloc, opening, limits, drafts).ok()
 }
 
-/// The name of a vertex of worker 0, which may read it, write to it and append to it.
-pub(crate) fn create(
+/// The name of a vertex that a worker makes, which gets all rights on values over it.
+pub(crate) fn make(
     alloc: Global,
     store: &mut Store<LawPayload>,
+    worker: u64,
+    kind: Making,
     payload: LawPayload,
 ) -> Option<u64> {
     let draft = Draft::new(alloc, payload).ok()?;
-    store.create(0, all_on_values(), draft).ok()
-}
-
-/// A store that is resumed from a part. Payloads are made by law.
-pub(crate) fn resumed(
-    alloc: Global,
-    store: Store<LawPayload>,
-    part: Part,
-) -> Result<Store<LawPayload>, ResumeStopped<LawPayload>> {
-    resume(alloc, store, &mut ByLaw { alloc }, part)
-}
-
-/// Lets go what is left of a store that wasn't resumed to the end of a part. It takes the refusal apart, because a
-/// `drop` would prove anew in this crate how each part of a store is dropped.
-pub(crate) fn let_go<P: Payload>(stopped: ResumeStopped<P>) {
-    match stopped {
-        ResumeStopped::BadPlace { store, .. } => store.let_go(),
-        ResumeStopped::BadEntry { .. } => {}
-        ResumeStopped::NoRoom { store, .. } => store.let_go(),
-    }
-}
-
-/// The store, if it was resumed to the end of a part.
-pub(crate) fn whole<P: Payload>(outcome: Result<Store<P>, ResumeStopped<P>>) -> Option<Store<P>> {
-    match outcome {
-        Ok(store) => Some(store),
-        Err(stopped) => {
-            let_go(stopped);
-            None
-        }
-    }
+    store.make(worker, kind, all_on_values(), draft).ok()
 }
