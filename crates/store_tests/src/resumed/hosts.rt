@@ -76,14 +76,16 @@ struct HostSeen {
     collections: [u64; 2],
 }
 
-// A store that is resumed from the first entry of a part, and then from the rest.
+// A store that is resumed from the first entry of a part, which it then forgets, and from the rest.
 fn gone_on(alloc: Global, tagging: &mut Tagging, part: Part) -> Option<Store<Tagged>> {
     let rest = part.rest(1)?;
     let first = Part {
         from: 0,
         entries: part.entries.get(..1)?,
     };
-    let store = whole(resume(alloc, open(alloc)?, tagging, first))?;
+    let mut store = whole(resume(alloc, open(alloc)?, tagging, first))?;
+    let upto = store.journal().len();
+    store.forget(upto);
     whole(resume(alloc, store, tagging, rest))
 }
 
