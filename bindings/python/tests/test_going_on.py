@@ -22,9 +22,7 @@ from kovshenul import (
     Limits,
     Log,
     Max,
-    NoSuchWorker,
     Refused,
-    Snapshot,
     Store,
     Sum,
     journal,
@@ -167,16 +165,16 @@ class FromSnapshot(unittest.TestCase):
         self.same(first, second, ENDS)
 
     def test_a_store_has_the_snapshot_of_its_auditor(self):
-        """An auditor that is opened from the snapshot of a store that was opened again comes to the same."""
+        """An auditor that goes on from the snapshot of the first store shows what the second store then makes."""
         with used(Kind.FULL) as first, Auditor(*opening()) as auditor:
             snapshot = snapshot_of(first, auditor)
             with Store.reopen(snapshot, opening()[2]) as store, Auditor.reopen(snapshot) as part:
-                for made, deed in ((8, Create(VALUES, Cell(0))), (9, Spawn(VALUES, Cell(0)))):
-                    self.assertEqual(answer(store, 1 if made == 8 else 5, deed), made)
+                self.assertEqual(store.create(1, VALUES, Cell(0)), 8)
+                self.assertEqual(store.spawn(5, VALUES, Cell(0)), 9)
                 lines = str(snapshot_of(store, part)).split("\n")
-        self.assertEqual([lines[1], *lines[2:6]], ["made 10 1000 16", "worker 0", "worker 1", "worker 5", "worker 9"])
-        self.assertEqual(sorted({*lines} - {*SHOWN.split("\n")}), [
-            "edge 1 8 rwa", "edge 5 9 rwa", "made 10 1000 16", "picture 18", "vertex 8 c0", "vertex 9 c0", "worker 9"])
+        added = ["edge 1 8 rwa", "edge 5 9 rwa", "made 10 1000 16", "picture 18", "vertex 8 c0", "vertex 9 c0", "worker 9"]
+        self.assertEqual(sorted({*lines} - {*SHOWN.split("\n")}), added)
+        self.assertEqual({*SHOWN.split("\n")} - {*lines}, {"made 8 1000 14", "picture 14"})
 
     def test_a_snapshot_without_a_place_to_go_on(self):
         limits = opening()[2]
