@@ -142,10 +142,10 @@ fn work_and_collect(
     collects: Option<Kind>,
 ) -> Option<()> {
     work(alloc, store)?;
-    match collects {
-        Some(kind) => store.collect(kind).ok().map(|_| ()),
-        None => Some(()),
+    if let Some(kind) = collects {
+        store.collect(kind).ok()?;
     }
+    Some(())
 }
 
 // Whether a snapshot has this text.
@@ -175,7 +175,10 @@ fn reopen(
         Ok(mut store) => {
             let has_text = has_text_of_reopened(alloc, &mut store);
             store.let_go();
-            has_text.map(Ok)
+            match has_text {
+                Some(has_text) => Some(Ok(has_text)),
+                None => None,
+            }
         }
         Err(ReopenRefused { opening, why }) => Some(Err((why, opening.workers()))),
     }
@@ -236,7 +239,7 @@ fn a_snapshot_is_the_same_whatever_was_collected(rt: HostRuntime) {
         texts(alloc, Some(Kind::Nursery)),
         texts(alloc, Some(Kind::Full)),
     ];
-    assert_eq!(rt; all, [Some([true, true]); 3]);
+    assert!(rt; all == [Some([true, true]); 3]);
 }
 
 fn refusals(alloc: Global) -> Option<[Refusal; 2]> {
@@ -250,5 +253,5 @@ fn a_snapshot_without_a_place_to_go_on(rt: HostRuntime) {
         Some((ReopenFault::LimitDiffers, 3)),
         Some((ReopenFault::NoSubject, 2)),
     ];
-    assert_eq!(rt; refusals(rt.alloc()), Some(wanted));
+    assert!(rt; refusals(rt.alloc()) == Some(wanted));
 }

@@ -91,10 +91,10 @@ fn places_of_deeds(alloc: Global) -> [Option<Result<u64, u64>>; 4] {
 #[test]
 fn a_name_that_is_not_the_next_is_found_at_its_place(rt: HostRuntime) {
     let bad = Some(Err(2));
-    assert_eq!(rt; places_of_replies(rt.alloc()), [Some(Ok(3)), bad, bad, bad]);
+    assert!(rt; places_of_replies(rt.alloc()) == [Some(Ok(3)), bad, bad, bad]);
 }
 
 #[test]
 fn a_deed_that_is_not_legal_is_found_at_its_place(rt: HostRuntime) {
-    assert_eq!(rt; places_of_deeds(rt.alloc()), [Some(Err(2)); 4]);
+    assert!(rt; places_of_deeds(rt.alloc()) == [Some(Err(2)); 4]);
 }

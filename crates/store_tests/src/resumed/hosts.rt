@@ -59,22 +59,18 @@ fn create_refused(alloc: Global, store: &mut Store<Tagged>) -> Option<CreateFaul
     }
 }
 
-// What is seen of a store that was resumed from entries of a list, a refused spawn, a create and a refused one.
-#[derive(Clone, Copy, PartialEq, Eq, Debug)]
-struct HostSeen {
-    // whether the list was answered, and why the spawn and the creates were refused in the first store
-    is_listed: bool,
-    spawn: Option<CreateFault>,
-    creates: [Option<CreateFault>; 2],
-    // the tag of the one vertex that was made, and how often its maker was asked
-    tag: Option<u64>,
-    asked: u64,
-    // how many entries the resumed store has of either refusal
-    workers_full: u64,
-    vertices_full: u64,
-    // how many collections it made, of the nurseries and in full
-    collections: [u64; 2],
-}
+// What is seen of a store that was resumed: how many entries it has of a refused spawn and of a refused create, and how
+// many collections it made of the nurseries and in full.
+type ResumedSeen = [u64; 4];
+
+// Whether a list was answered in the first store, why the spawn and two creates were refused there, and how often the
+// maker of the second store was asked. Then the tag of the vertex that was made, and what else is seen of that store.
+type HostSeen = (
+    bool,
+    [Option<CreateFault>; 3],
+    u64,
+    (Option<u64>, ResumedSeen),
+);
 
 // A store that is resumed from the first entry of a part, which it then forgets, and from the rest.
 fn gone_on(alloc: Global, tagging: &mut Tagging, part: Part) -> Option<Store<Tagged>> {
@@ -89,36 +85,44 @@ fn gone_on(alloc: Global, tagging: &mut Tagging, part: Part) -> Option<Store<Tag
     whole(resume(alloc, store, tagging, rest))
 }
 
-// Resumes a store from a part, and adds what is seen of it.
-fn seen_of(alloc: Global, part: Part, first: HostSeen) -> Option<HostSeen> {
-    let mut tagging = Tagging { asked: 0 };
-    let store = gone_on(alloc, &mut tagging, part)?;
-    let tag = store.payload(1, MAX_WORKERS).map(|cell| cell.tag);
+// The tag that worker 1 is lent of the vertex that was made.
+fn tag_of(store: &Store<Tagged>) -> Option<u64> {
+    match store.payload(1, MAX_WORKERS) {
+        Some(payload) => Some(payload.tag),
+        None => None,
+    }
+}
+
+fn resumed_seen(store: &Store<Tagged>) -> ResumedSeen {
     let census = store.census();
+    let (refusals, collections) = (census.refusals, census.collections);
+    [
+        refusals.workers_full,
+        refusals.vertices_full,
+        collections.nursery,
+        collections.full,
+    ]
+}
+
+// What is seen of a store that is resumed from a part.
+fn seen_of(alloc: Global, tagging: &mut Tagging, part: Part) -> Option<(Option<u64>, ResumedSeen)> {
+    let store = gone_on(alloc, tagging, part)?;
+    let seen = (tag_of(&store), resumed_seen(&store));
     store.let_go();
-    Some(HostSeen {
-        tag,
-        asked: tagging.asked,
-        workers_full: census.refusals.workers_full,
-        vertices_full: census.refusals.vertices_full,
-        collections: [census.collections.nursery, census.collections.full],
-        ..first
-    })
+    Some(seen)
 }
 
 // Lets workers of the store list, spawn and create, and resumes another from its journal.
 fn seen_again(alloc: Global, store: &mut Store<Tagged>) -> Option<HostSeen> {
-    let first = HostSeen {
-        is_listed: store.apply(0, Command::List).is_ok(),
-        spawn: spawn_refused(alloc, store),
-        creates: [create_refused(alloc, store), create_refused(alloc, store)],
-        tag: None,
-        asked: 0,
-        workers_full: 0,
-        vertices_full: 0,
-        collections: [0, 0],
-    };
-    seen_of(alloc, Part::of(store.journal()), first)
+    let is_listed = store.apply(0, Command::List).is_ok();
+    let refused = [
+        spawn_refused(alloc, store),
+        create_refused(alloc, store),
+        create_refused(alloc, store),
+    ];
+    let mut tagging = Tagging { asked: 0 };
+    let seen = seen_of(alloc, &mut tagging, Part::of(store.journal()))?;
+    Some((is_listed, refused, tagging.asked, seen))
 }
 
 fn seen(alloc: Global) -> Option<HostSeen> {
@@ -132,15 +136,11 @@ fn seen(alloc: Global) -> Option<HostSeen> {
 // store collects nothing.
 #[test]
 fn a_maker_is_asked_once_for_each_and_refusals_are_entries(rt: HostRuntime) {
-    let wanted = HostSeen {
-        is_listed: true,
-        spawn: Some(CreateFault::WorkersFull),
-        creates: [None, Some(CreateFault::VerticesFull)],
-        tag: Some(MAX_WORKERS),
-        asked: 3,
-        workers_full: 1,
-        vertices_full: 1,
-        collections: [0, 0],
-    };
-    assert_eq!(rt; seen(rt.alloc()), Some(wanted));
+    let refused = [
+        Some(CreateFault::WorkersFull),
+        None,
+        Some(CreateFault::VerticesFull),
+    ];
+    let wanted = (true, refused, 3, (Some(MAX_WORKERS), [1, 1, 0, 0]));
+    assert!(rt; seen(rt.alloc()) == Some(wanted));
 }

@@ -31,6 +31,15 @@ pub(crate) struct StoryTold {
     nobody: (Option<ApplyFault>, bool),
 }
 
+const NOTHING: StoryTold = StoryTold {
+    labels: [0, 0],
+    parts: [(0, 0, false), (0, 0, false)],
+    taken_over: [false, false],
+    ended: (None, None),
+    held_by_ended: [0, 0],
+    nobody: (None, false),
+};
+
 // The bits of what the session's worker holds over a vertex, or 0 if it holds nothing.
 fn held_by<L: Round, R: Wait>(
     rt: &R,
@@ -200,51 +209,56 @@ fn story<R: Wait>(rt: &R, alloc: Global) -> Option<(StoryTold, Back)> {
 
 // What the sessions see of the store while it is shared.
 fn while_shared<R: Wait>(rt: &R, alloc: Global) -> StoryTold {
-    story(rt, alloc).unwrap().0
+    match story(rt, alloc) {
+        Some((told, _)) => told,
+        None => NOTHING,
+    }
+}
+
+// What is seen of the store that is taken back.
+fn taken_back<R: Wait>(rt: &R, alloc: Global) -> Option<Back> {
+    match story(rt, alloc) {
+        Some((_, back)) => Some(back),
+        None => None,
+    }
 }
 
 // A session gets the label of its own worker.
 #[test]
 fn labels_are_told(rt: HostRuntime) {
-    assert_eq!(rt; while_shared(&rt, rt.alloc()).labels, [3, 0]);
+    assert!(rt; while_shared(&rt, rt.alloc()).labels == [3, 0]);
 }
 
 // A part begins where the last one ended, and the receipts so far match the first.
 #[test]
 fn a_journal_is_taken_in_parts(rt: HostRuntime) {
-    assert_eq!(rt;
-        while_shared(&rt, rt.alloc()).parts,
-        [(0, 1, true), (1, 4, false)]
-    );
+    assert!(rt; while_shared(&rt, rt.alloc()).parts == [(0, 1, true), (1, 4, false)]);
 }
 
 // A session with a receipt isn't taken over, and then it is.
 #[test]
 fn a_session_is_taken_over(rt: HostRuntime) {
-    assert_eq!(rt; while_shared(&rt, rt.alloc()).taken_over, [false, true]);
+    assert!(rt; while_shared(&rt, rt.alloc()).taken_over == [false, true]);
 }
 
 // A worker that is ended gives up its edge, and its session is answered that there is no such worker.
 #[test]
 fn a_worker_is_ended(rt: HostRuntime) {
     let wanted = (Some(1), Some(ApplyFault::NoSuchWorker));
-    assert_eq!(rt; while_shared(&rt, rt.alloc()).ended, wanted);
+    assert!(rt; while_shared(&rt, rt.alloc()).ended == wanted);
 }
 
 // A label is that of the graph now. A worker that the keeper ended holds nothing over its own vertex any more. Its
 // session saw rights over the vertex before, and made no call in between.
 #[test]
 fn a_label_is_not_remembered(rt: HostRuntime) {
-    assert_eq!(rt; while_shared(&rt, rt.alloc()).held_by_ended, [3, 0]);
+    assert!(rt; while_shared(&rt, rt.alloc()).held_by_ended == [3, 0]);
 }
 
 // A name that is no worker's is ended of nobody: the first session acts on.
 #[test]
 fn nobody_else_is_ended(rt: HostRuntime) {
-    assert_eq!(rt;
-        while_shared(&rt, rt.alloc()).nobody,
-        (Some(ApplyFault::NoSuchWorker), true)
-    );
+    assert!(rt; while_shared(&rt, rt.alloc()).nobody == (Some(ApplyFault::NoSuchWorker), true));
 }
 
 // The store is closed without the session that was taken over, and with the session of the worker that was ended. The
@@ -252,8 +266,5 @@ fn nobody_else_is_ended(rt: HostRuntime) {
 // collect, and it didn't.
 #[test]
 fn a_shared_store_is_cut_and_closes(rt: HostRuntime) {
-    assert_eq!(rt;
-        story(&rt, rt.alloc()).map(|seen| seen.1),
-        Some(([2, 4, 8, 4], [5, 0, 0]))
-    );
+    assert!(rt; taken_back(&rt, rt.alloc()) == Some(([2, 4, 8, 4], [5, 0, 0])));
 }
