@@ -275,9 +275,8 @@ tg_status tg_rights_read(const char *letters, uint64_t *rights);
 
    It is TG_ALREADY_OPEN exactly where the store is open. Otherwise the call looks at its arguments in this order, before it asks
    for memory, and returns the first fault: the values' laws (TG_BAD_LAW), the edges' rights (TG_BAD_RIGHTS), the number of
-   workers (TG_BAD_WORKERS), max_vertices (TG_BAD_LIMITS), the
-   edges' ends (TG_BAD_EDGE), the other limits (TG_BAD_LIMITS), and whether there may be a block for each worker (TG_HEAP_FULL).
-   If there is no fault, it returns TG_DONE or TG_OUT_OF_MEMORY. */
+   workers (TG_BAD_WORKERS), max_vertices (TG_BAD_LIMITS), the edges' ends (TG_BAD_EDGE), the other limits (TG_BAD_LIMITS), and
+   whether there may be a block for each worker (TG_HEAP_FULL). If there is no fault, it returns TG_DONE or TG_OUT_OF_MEMORY. */
 tg_status tg_open(tg_store *store, const tg_value *workers, size_t worker_count, const tg_edge *edges, size_t edge_count,
                   const tg_limits *limits);
 
