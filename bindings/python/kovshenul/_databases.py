@@ -1,6 +1,8 @@
-"""The two kinds of database in which `kovshenul.database` keeps entries: sqlite3 of the standard library, and PostgreSQL by psycopg2.
+"""The two kinds of database in which `kovshenul.database` keeps entries: sqlite3 of the standard library, and PostgreSQL by
+psycopg2.
 
-An object of one has a host's connection. It begins and ends transactions, runs statements, and checks what the connection is set to.
+An object of one has a host's connection. It begins and ends transactions, runs statements, and checks what the connection is
+set to.
 """
 from __future__ import annotations
 
@@ -20,8 +22,8 @@ MOST_SIGNED = 2**63 - 1
 
 
 class BadSettings(Error, ValueError):
-    """The connection or its server is set so that a crash may take back what was committed. The text says which setting it is, and
-    what to set. Nothing was changed."""
+    """The connection or its server is set so that a crash may take back what was committed. The text says which setting it is,
+    and what to set. Nothing was changed."""
 
 
 class InTransaction(Error, RuntimeError):
@@ -66,8 +68,8 @@ class Database:
         raise NotImplementedError
 
     def must_last(self, standby: bool) -> None:
-        """Raises BadSettings if a transaction that is committed now may be lost: by a crash of the machine, and if it is asked for
-        also by the loss of the server."""
+        """Raises BadSettings if a transaction that is committed now may be lost: by a crash of the machine, and if it is asked
+        for also by the loss of the server."""
         raise NotImplementedError
 
     def commit(self) -> None:
@@ -107,7 +109,7 @@ class Database:
     def must_be_idle(self) -> None:
         """Raises InTransaction if the connection has an open transaction."""
         if self.is_in_transaction():
-            raise InTransaction("the connection has an open transaction, which a journal would end: commit it or roll it back first")
+            raise InTransaction("the connection has an open transaction, or is broken: commit or roll back first")
 
     @contextmanager
     def reading(self) -> Iterator[None]:
@@ -147,7 +149,7 @@ class Sqlite(Database):
     # A COMMIT or a ROLLBACK of the host ends the savepoint with this name.
     SAVEPOINT = "kovshenul_of_journal"
     SYNCHRONOUS = ("OFF", "NORMAL", "FULL", "EXTRA")
-    # What `synchronous` has to be, by the journal mode of the file. In the mode DELETE only EXTRA syncs the folder of the journal.
+    # What `synchronous` has to be, by the journal mode of the file. In the mode DELETE only EXTRA syncs the folder.
     ENOUGH: Dict[str, Tuple[str, ...]] = {
         "wal": ("FULL", "EXTRA"),
         "delete": ("EXTRA",),
@@ -158,7 +160,7 @@ class Sqlite(Database):
     def __init__(self, connection: Any) -> None:
         super().__init__(connection)
         if getattr(connection, "autocommit", -1) is False:
-            raise BadSettings("autocommit=False keeps a transaction open at all times: connect with autocommit=True, or without autocommit")
+            raise BadSettings("autocommit=False keeps a transaction open at all times: connect with autocommit=True")
 
     def is_in_transaction(self) -> bool:
         return self.connection.in_transaction
@@ -182,12 +184,12 @@ class Sqlite(Database):
         if standby:
             raise BadSettings("SQLite has no standby: leave standby out")
         if mode not in self.ENOUGH:
-            raise BadSettings(f"PRAGMA journal_mode is {mode}, which doesn't outlive a crash: set PRAGMA journal_mode=WAL on a file")
+            raise BadSettings(f"PRAGMA journal_mode is {mode}, which outlives no crash: set PRAGMA journal_mode=WAL on a file")
         if synchronous not in self.ENOUGH[mode]:
-            wanted = "PRAGMA synchronous=EXTRA, or journal_mode=WAL with synchronous=FULL" if mode == "delete" else "PRAGMA synchronous=FULL"
+            wanted = f"PRAGMA synchronous={self.ENOUGH[mode][0]}" + (", or PRAGMA journal_mode=WAL" if mode == "delete" else "")
             raise BadSettings(
-                f"PRAGMA synchronous is {synchronous} with PRAGMA journal_mode={mode}: a crash of the machine may take back what was "
-                f"committed. Set {wanted}"
+                f"PRAGMA synchronous is {synchronous} with PRAGMA journal_mode={mode}: a crash of the machine may take back what "
+                f"was committed. Set {wanted}"
             )
 
     def commit(self) -> None:
@@ -270,9 +272,9 @@ class Postgres(Database):
         if fsync == "off":
             raise BadSettings("fsync is off on the server: a crash of the machine may destroy the database. Set fsync = on")
         if synchronous == "off":
-            raise BadSettings("synchronous_commit is off: a crash of the server may take back what was committed. Set synchronous_commit = on")
+            raise BadSettings("synchronous_commit is off: a crash may take back what was committed. Set synchronous_commit = on")
         if standby and synchronous not in ("on", "remote_apply"):
-            raise BadSettings(f"synchronous_commit is {synchronous}, which doesn't wait for the disk of a standby: set synchronous_commit = on")
+            raise BadSettings(f"synchronous_commit is {synchronous}, which waits for no standby's disk: set synchronous_commit = on")
         if standby and not standbys:
             raise BadSettings("synchronous_standby_names is empty, so no COMMIT waits for a standby: name a standby")
 

@@ -1,7 +1,8 @@
-"""The two tables of a store that is kept in a database: its entries, and the head, which has the snapshot before the first of them.
+"""The two tables of a store that is kept in a database: its entries, and the head, which has the snapshot before the first of
+them.
 
-The columns of an entry are the words of its line. So a query of the host finds entries by them, and a reader compares them with the
-line. Numbers of vertices and places of a query come as text, because no database has a type for each number below 2^64.
+The columns of an entry are the words of its line. So a query of the host finds entries by them, and a reader compares them with
+the line. Numbers of vertices and places of a query come as text, because no database has a type for each number below 2^64.
 """
 from __future__ import annotations
 
@@ -69,8 +70,8 @@ class Tables:
             f"snapshot TEXT NOT NULL)"
         )
         self.database.run(
-            f"CREATE TABLE IF NOT EXISTS {self.of_entries} (place {place}, worker {vertex} NOT NULL, deed TEXT NOT NULL, via {vertex}, "
-            f"target {vertex}, rights TEXT, value TEXT, reply TEXT NOT NULL, line TEXT NOT NULL)"
+            f"CREATE TABLE IF NOT EXISTS {self.of_entries} (place {place}, worker {vertex} NOT NULL, deed TEXT NOT NULL, "
+            f"via {vertex}, target {vertex}, rights TEXT, value TEXT, reply TEXT NOT NULL, line TEXT NOT NULL)"
         )
         row = 0, VERSION, head.first, *head.limits, str(head.snapshot)
         self.database.insert(self.of_head, [row])
@@ -128,8 +129,8 @@ class Tables:
         return None
 
     def entries(self, at: int, most: int = CHUNK) -> List[Entry]:
-        """The entries from a place on, at most so many. BadPlace if one of them isn't there, and BadEntry if a column isn't what the
-        line says. The exception's `at` is the place."""
+        """The entries from a place on, at most so many. BadPlace if one of them isn't there, and BadEntry if a column isn't
+        what the line says. The exception's `at` is the place."""
         words = ", ".join(f"CAST(e.{name} AS TEXT)" for name in ("place", *WORDS))
         query = f"SELECT {words}, e.line FROM {self.of_entries} AS e WHERE e.place >= ? ORDER BY e.place LIMIT {most}"
         return [_entry_of(place, row) for place, row in enumerate(self.database.rows(query, at), at)]

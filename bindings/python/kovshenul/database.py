@@ -9,13 +9,13 @@
         cursor.execute("INSERT INTO note VALUES (?, ?)", (note, "a note"))
     print(note)                                           # a reply is handed on after its transaction
 
-The connection is one of sqlite3, or one of psycopg2 to PostgreSQL. A transaction is committed whole or not at all: the rows of the host,
-and the entries of the commands that the store answered in it. A row of the table has the place of its entry as the primary key. So of two
-writers one fails, which then raises Fenced.
+The connection is one of sqlite3, or one of psycopg2 to PostgreSQL. A transaction is committed whole or not at all: the rows of
+the host, and the entries of the commands that the store answered in it. A row of the table has the place of its entry as the
+primary key. So of two writers one fails, which then raises Fenced.
 
-Hand on what the store answered only after the end of the `with`. Before, a crash may take the answer back. If a COMMIT fails or has no
-answer, the journal closes the store and raises Lost, because nobody knows whether the entries are in the table. `Journal.resume` then
-opens a store with all entries of the table.
+Hand on what the store answered only after the end of the `with`. Before, a crash may take the answer back. If a COMMIT fails or
+has no answer, the journal closes the store and raises Lost, because nobody knows whether the entries are in the table.
+`Journal.resume` then opens a store with all entries of the table.
 
 One thread at a time uses a journal, its store and its connection. Other threads and other processes ask a Follower, which has a
 connection of its own. The page docs/DATABASE.md says what this gives and what it doesn't.
@@ -23,13 +23,13 @@ connection of its own. The page docs/DATABASE.md says what this gives and what i
 from __future__ import annotations
 
 from contextlib import contextmanager
-from functools import wraps
 from threading import get_ident
-from typing import Any, Callable, Iterable, Iterator, List, NoReturn, Optional, Sequence, Set, Tuple, TypeVar
+from typing import Any, Iterable, Iterator, List, Optional, Sequence, Set, Tuple, TypeVar
 
 from . import _store
 from ._auditor import Auditor
 from ._databases import BadSettings, Database, InTransaction, database_of
+from ._guarded import NoTransaction, Store
 from ._refusals import BadPlace, Error, NotOpen
 from ._tables import CHUNK, BadTables, Head, Last, Tables
 from ._values import Limits, Rights, Value
@@ -37,7 +37,19 @@ from ._view import View
 from .journal import Done, Entry, Name
 from .outlook import Outlook
 
-__all__ = ["BadSettings", "BadTables", "Fenced", "Follower", "InTransaction", "Journal", "Last", "Lost", "NoTransaction", "Older", "Store"]
+__all__ = [
+    "BadSettings",
+    "BadTables",
+    "Fenced",
+    "Follower",
+    "InTransaction",
+    "Journal",
+    "Last",
+    "Lost",
+    "NoTransaction",
+    "Older",
+    "Store",
+]
 
 PREFIX = "kovshenul_"
 
@@ -53,111 +65,21 @@ class Fenced(Error):
 
 
 class Older(Error):
-    """The table lacks an entry that was committed: it is an older copy, or that of a standby that didn't have the entry yet. Rights that
-    were given up may be back. The journal raises Older from then on. Who wants to go on from the older history makes a new Journal."""
-
-
-class NoTransaction(Error, RuntimeError):
-    """A command was asked for outside of a transaction of the journal, or by another thread than the one with the transaction. The
-    store is as it was."""
-
-
-# ---- the store of a journal
-
-# The commands of a store, each of which makes an entry.
-COMMANDS = (
-    "append",
-    "apply_all",
-    "create",
-    "grant",
-    "hand",
-    "inspect",
-    "leave",
-    "list",
-    "read",
-    "remove",
-    "retire",
-    "spawn",
-    "take",
-    "write",
-)
-
-# The questions, whose answers show what commands did.
-QUESTIONS = ("census", "could", "entries", "entry", "label", "names", "subjects", "view", "who_holds")
-
-
-class _Guard:
-    """Who may ask a store for what. During a transaction one thread has it."""
-
-    def __init__(self) -> None:
-        self.thread: Optional[int] = None
-
-    def must_allow_command(self) -> None:
-        if self.thread != get_ident():
-            raise NoTransaction("a command is asked for in a transaction of the journal: with journal.transaction() as cursor: ..")
-
-    def must_allow_question(self) -> None:
-        if self.thread not in (None, get_ident()):
-            raise NoTransaction("another thread has a transaction of the journal: ask a follower, or ask later")
-
-
-class Store(_store.Store):
-    """A store whose entries are kept in a database. It has the calls of `kovshenul.Store`. A command outside of a transaction of the
-    journal raises NoTransaction. `forget` and `go_on` do so too, because the journal itself takes up entries and gives them up."""
-
-    __slots__ = ("_guard",)
-
-    def __new__(cls, *_arguments: object, **_words: object) -> Store:
-        """A closed one, without a transaction."""
-        store = super().__new__(cls)
-        store._guard = _Guard()
-        return store
-
-    def forget(self, upto: int) -> NoReturn:
-        """Raises NoTransaction. The journal gives entries up after their COMMIT."""
-        raise NoTransaction("the journal itself gives entries up, after their COMMIT")
-
-    def go_on(self, at: int, entries: Iterable[Entry]) -> NoReturn:
-        """Raises NoTransaction. The journal takes entries from its table alone."""
-        raise NoTransaction("the journal takes entries from its table alone")
-
-    def _take_up(self, entries: Sequence[Entry]) -> None:
-        """Goes on from entries of the table, and gives them up."""
-        super().go_on(super().entries(), entries)
-        self._give_up()
-
-    def _give_up(self) -> None:
-        """Gives up all entries, which are in the table."""
-        super().forget(super().entries())
-
-
-def _guarded(name: str, check: Callable[[_Guard], None]) -> Callable[..., Any]:
-    """The call of a store with this name, after the check."""
-    call = getattr(_store.Store, name)
-
-    @wraps(call)
-    def guarded(self: Store, *words: Any, **named: Any) -> Any:
-        check(self._guard)
-        return call(self, *words, **named)
-
-    return guarded
-
-
-for _name in COMMANDS:
-    setattr(Store, _name, _guarded(_name, _Guard.must_allow_command))
-for _name in QUESTIONS:
-    setattr(Store, _name, _guarded(_name, _Guard.must_allow_question))
+    """The table lacks an entry that was committed: it is an older copy, or that of a standby that didn't have the entry yet.
+    Rights that were given up may be back. The journal raises Older from then on. Who wants to go on from the older history
+    makes a new Journal."""
 
 
 def _take_all(tables: Tables, store: Optional[Store] = None, limits: Optional[Limits] = None) -> Store:
-    """A store with all entries of the table. It is the same store, unless entries that the store lacks were deleted. Each part of the
-    entries is read in a transaction of its own."""
+    """A store with all entries of the table. It is the same store, unless entries that the store lacks were deleted. Another one
+    has no marks. Each part of the entries is read in a transaction of its own."""
     own = None
     try:
         while True:
             with tables.database.reading():
                 if store is None or store.entries() < tables.first():
-                    store = own = _begun(tables.head(), limits, store)
+                    head = tables.head()
+                    store = own = Store.reopen(head.snapshot, head.limits if limits is None else limits)
                 entries = tables.entries(store.entries())
             if not entries:
                 return store
@@ -168,15 +90,6 @@ def _take_all(tables: Tables, store: Optional[Store] = None, limits: Optional[Li
         raise
 
 
-def _begun(head: Head, limits: Optional[Limits] = None, old: Optional[Store] = None) -> Store:
-    """A store that begins with the snapshot. It has the marks of the old one, which it replaces."""
-    store = Store.reopen(head.snapshot, head.limits if limits is None else limits)
-    if old is not None:
-        store._names, store._trusted = old._names, old._trusted
-        old.close()
-    return store
-
-
 # ---- the writer
 
 Own = TypeVar("Own", bound="Journal")
@@ -185,9 +98,9 @@ Own = TypeVar("Own", bound="Journal")
 class Journal:
     """The writer of a store whose entries are in the tables `PREFIXhead` and `PREFIXentry` of a database.
 
-    It checks what the connection is set to, and raises BadSettings if a crash of the machine may take back what was committed. It checks
-    the same in each transaction. With `standby` it also asks for a synchronous standby of PostgreSQL, so that the loss of the server
-    takes back nothing. It raises InTransaction if the connection has an open transaction.
+    It checks what the connection is set to, and raises BadSettings if a crash of the machine may take back what was committed.
+    It checks the same in each transaction. With `standby` it also asks for a synchronous standby of PostgreSQL, so that the
+    loss of the server takes back nothing. It raises InTransaction if the connection has an open transaction.
     """
 
     def __init__(self, connection: Any, prefix: str = PREFIX, standby: bool = False) -> None:
@@ -204,8 +117,8 @@ class Journal:
             self._database.must_last(standby)
 
     def has_store(self) -> bool:
-        """Whether the tables have a store, which `resume` goes on from. Otherwise `open` makes one. It raises BadTables if another
-        version of the package wrote them."""
+        """Whether the tables have a store, which `resume` goes on from. Otherwise `open` makes one. It raises BadTables if
+        another version of the package wrote them."""
         with self._database.reading():
             return self._tables.is_there()
 
@@ -235,12 +148,12 @@ class Journal:
         trusted: Iterable[int] = (),
         last: Optional[Last] = None,
     ) -> Store:
-        """Opens a store that has all entries of the table, and closes the one before. Its limits are those of `open`, or others with
-        the same `max_vertices`. `trusted` are workers after the last entry.
+        """Opens a store that has all entries of the table, and closes the one before. Its limits are those of `open`, or others
+        with the same `max_vertices`. `trusted` are workers after the last entry.
 
-        It does the deed of each entry again, and compares the reply. It raises BadEntry if an entry isn't legal or if a column isn't
-        what its line says, and BadPlace if a row is missing. The exception's `at` is the place. It raises BadTables if there is no
-        store.
+        It does the deed of each entry again, and compares the reply. It raises BadEntry if an entry isn't legal or if a column
+        isn't what its line says, and BadPlace if a row is missing. The exception's `at` is the place. It raises BadTables if
+        there is no store.
 
         `last` is what the property `last` of another journal was. It raises Older if the table has no such entry, unless it was
         pruned. The journal compares its own last entry too. After Lost it raises Fenced if another writer made entries since.
@@ -267,13 +180,13 @@ class Journal:
     def transaction(self) -> Iterator[Any]:
         """A transaction, in which the store may be asked for commands. It yields a cursor for the host's own statements.
 
-        At the end of the `with` the new entries are inserted, and all is committed. It raises Lost or Fenced if that fails. If the
-        body raises, the host's statements are rolled back, and the exception goes on. If the entries of the body changed nothing, as
-        denials and reads do, they are then committed alone, and the store goes on. Otherwise the journal closes the store, because no
-        entry can be taken out of a store. The exception has a note of that, and `resume` opens another store.
+        At the end of the `with` the new entries are inserted, and all is committed. It raises Lost or Fenced if that fails. If
+        the body raises, the host's statements are rolled back, and the exception goes on. If the entries of the body changed
+        nothing, as denials and reads do, they are then committed alone, and the store goes on. Otherwise the journal closes the
+        store, because no entry can be taken out of a store. The exception has a note of that, and `resume` opens another store.
 
-        Neither commit nor roll back in the body. It raises InTransaction if the connection has an open transaction, or if the journal
-        has one. It raises Fenced or Older if the table doesn't end with the last entry of this journal.
+        Neither commit nor roll back in the body. It raises InTransaction if the connection has an open transaction, or if the
+        journal has one. It raises Fenced or Older if the table doesn't end with the last entry of this journal.
         """
         store = self._begin()
         try:
@@ -289,7 +202,8 @@ class Journal:
 
     @property
     def store(self) -> Store:
-        """The store of `open` or `resume`. It raises Lost, Fenced or Older if the journal closed it, and NotOpen if there is none."""
+        """The store of `open` or `resume`. It raises Lost, Fenced or Older if the journal closed it, and NotOpen if there is
+        none."""
         if self._why is not None:
             raise type(self._why)(*self._why.args)
         if self._store is None or self._store.closed:
@@ -298,20 +212,22 @@ class Journal:
 
     @property
     def last(self) -> Last:
-        """The last entry that this journal knows to be committed. Keep it outside of the database to notice an older copy of it."""
+        """The last entry that this journal knows to be committed. Keep it outside of the database to notice an older copy of
+        it."""
         return self._last
 
     def prune(self, upto: Optional[int] = None) -> int:
-        """Keeps a snapshot at the end of the entries, or at the place `upto`, and deletes the rows before it. The row of the last
-        entry before the snapshot stays. A store is then resumed from the snapshot. Returns the place of the snapshot.
+        """Keeps a snapshot at the end of the entries, or at the place `upto`, and deletes the rows before it. The row of the
+        last entry before the snapshot stays. A store is then resumed from the snapshot. Returns the place of the snapshot.
 
-        It replays the entries since the last snapshot, in a store and an auditor of its own. So the snapshot is of a legal history. A
-        journal in another process may prune while a writer writes. If two prune at a time, one of them changes nothing.
+        It replays the entries since the last snapshot, in a store and an auditor of its own. So the snapshot is of a legal
+        history. A journal in another process may prune while a writer writes. If two prune at a time, one of them changes
+        nothing.
         """
         self._must_be_idle()
         with self._database.reading():
             old = self._tables.head()
-        with _begun(old) as store, Auditor.reopen(old.snapshot) as auditor:
+        with Store.reopen(old.snapshot, old.limits) as store, Auditor.reopen(old.snapshot) as auditor:
             while self._feed(store, auditor, old.first, upto):
                 pass
             new = Head(auditor.at, old.limits, auditor.snapshot())
@@ -346,19 +262,20 @@ class Journal:
         return why
 
     def _end_of(self, store: Store, wanted: Iterable[Optional[Last]]) -> Last:
-        """The last entry of a store that has all entries of the table. The table has the wanted ones too, if they weren't pruned."""
+        """The last entry of a store that has all entries of the table. The table has the wanted ones too, if they weren't
+        pruned."""
         first, entries = self._tables.first(), store.entries()
         for last in wanted:
             if last is not None and last.entries >= max(first, 1) and self._tables.line(last.entries - 1) != last.line:
-                raise self._stop(Older(f"the table has no entry {last.entries - 1} with the line {last.line!r}, which was committed"))
+                raise self._stop(Older(f"the table lacks the entry {last.entries - 1}, which was committed: {last.line!r}"))
         line = self._tables.line(entries - 1)
         if line is None and entries > 0:
             raise BadPlace(text=f"the table has no row of the place {entries - 1}")
         return Last(entries, line)
 
     def _feed(self, store: Store, auditor: Auditor, first: int, upto: Optional[int]) -> bool:
-        """Has a store and an auditor take up the next entries before a place. Returns whether there were any. There are none if somebody
-        else moved the head."""
+        """Has a store and an auditor take up the next entries before a place. Returns whether there were any. There are none if
+        somebody else moved the head."""
         at = store.entries()
         most = CHUNK if upto is None else min(CHUNK, max(upto - at, 0))
         with self._database.reading():
@@ -384,10 +301,11 @@ class Journal:
 
     def _must_be_last(self, last: Last) -> None:
         """The table ends with the last entry of this journal."""
-        if last.entries < self._last.entries:
-            raise self._stop(Older(f"the table has {last.entries} entries, and {self._last.entries} were committed"))
-        if last != self._last:
-            raise self._stop(Fenced(f"another writer made entries: the table has {last.entries}, and this journal {self._last.entries}"))
+        known = self._last
+        if last.entries < known.entries:
+            raise self._stop(Older(f"the table has {last.entries} entries, and {known.entries} were committed"))
+        if last != known:
+            raise self._stop(Fenced(f"another writer made entries: the table has {last.entries}, and this journal {known.entries}"))
 
     def _commit(self, store: Store, is_begun: bool = True) -> None:
         """Inserts the new entries and commits. The journal closes the store if that fails."""
@@ -404,7 +322,8 @@ class Journal:
             self._database.roll_back_quietly()
             if isinstance(error, Fenced):
                 raise self._stop(error)
-            lost = self._stop(Lost(f"the transaction may not be committed, so the store was closed: {error or type(error).__name__}"))
+            what = str(error) or type(error).__name__
+            lost = self._stop(Lost(f"the transaction may not be committed, so the store was closed: {what}"))
             if isinstance(error, Exception):
                 raise lost from error
             raise
@@ -434,7 +353,7 @@ class Journal:
             return
         if any(isinstance(reply, (Done, Name)) for reply in replies):
             self._stop(Lost("the body of a transaction raised after commands that were done, so the store was closed"))
-            error.add_note("The journal closed its store, which had done commands of the transaction. Journal.resume opens another store.")
+            error.add_note("The journal closed its store, which had done commands of the transaction. Call Journal.resume.")
         elif replies:
             self._commit(store, is_begun=False)
 
@@ -444,9 +363,9 @@ class Journal:
 class Follower:
     """A reader of a store that is kept in a database: it has a store of its own, which takes up the entries of the table.
 
-    It opens the store, and takes up all entries. From then on `follow` takes up what is new. It raises what `Journal.resume` raises. It
-    writes nothing, so a standby of PostgreSQL may answer it. The answers are those of the writer's store at the same `place`.
-    `trusted` are workers after the last entry that is there.
+    It opens the store, and takes up all entries. From then on `follow` takes up what is new. It raises what `Journal.resume`
+    raises. It writes nothing, so a standby of PostgreSQL may answer it. The answers are those of the writer's store at the same
+    `place`. `trusted` are workers after the last entry that is there.
     """
 
     def __init__(self, connection: Any, prefix: str = PREFIX, trusted: Iterable[int] = ()) -> None:
@@ -455,11 +374,15 @@ class Follower:
         self._store._trust_each(trusted)
 
     def follow(self) -> int:
-        """Takes up the entries that are new, and returns the place. It raises what `Journal.resume` raises. It has some of the new
-        entries then, or it is closed. After an exception of the database it follows again."""
+        """Takes up the entries that are new, and returns the place. It raises what `Journal.resume` raises. It has some of the
+        new entries then, or after a bad entry it is closed. After an exception of the database it can follow again."""
         if self._store.closed:
             raise NotOpen
-        self._store = _take_all(self._tables, self._store)
+        store = _take_all(self._tables, self._store)
+        if store is not self._store:
+            store._trusted = self._store._trusted
+            self._store.close()
+            self._store = store
         return self.place
 
     @property

@@ -1,7 +1,7 @@
 """A server of PostgreSQL for tests: a cluster in a folder of its own, which listens on a Unix socket alone.
 
-It is started as the user `postgres` where root runs the test, because PostgreSQL refuses to run as root. `lacks()` says what isn't
-there. Debian's packages are `postgresql` and `python3-psycopg2`.
+It is started as the user `postgres` where root runs the test, because PostgreSQL refuses to run as root. `lacks()` says what
+isn't there. Debian's packages are `postgresql` and `python3-psycopg2`.
 """
 import os
 import pwd
@@ -36,10 +36,11 @@ def lacks():
 
 
 class Server:
-    """A server with its own data. `stop` and `start` may follow one another, and `close` deletes all."""
+    """A server with its own data, in a folder below `above`. `stop` and `start` may follow one another, and `close` deletes
+    all. It may be a standby, which begins as a copy of another server."""
 
-    def __init__(self, settings=(), port=5432, copy_of=None):
-        self.folder, self.port = Path(tempfile.mkdtemp(prefix="kovshenul-")), port
+    def __init__(self, settings=(), port=5432, copy_of=None, above=None):
+        self.folder, self.port = Path(tempfile.mkdtemp(prefix="kovshenul-", dir=above)), port
         self.as_user = {"user": USER, "group": USER, "extra_groups": []} if os.getuid() == 0 else {}
         if self.as_user:
             shutil.chown(self.folder, USER, USER)
@@ -59,8 +60,8 @@ class Server:
 
     def _call(self, program, *words):
         """Calls one of PostgreSQL's programs as the user."""
-        called = [str(programs() / program), *map(str, words)]
-        subprocess.run(called, check=True, cwd="/", stdin=subprocess.DEVNULL, stdout=subprocess.DEVNULL, **self.as_user)
+        streams = dict.fromkeys(("stdin", "stdout", "stderr"), subprocess.DEVNULL)
+        subprocess.run([str(programs() / program), *map(str, words)], check=True, cwd="/", **streams, **self.as_user)
 
     def start(self):
         """Starts the server, and waits until it answers."""
@@ -74,14 +75,15 @@ class Server:
         """Makes a standby the server that writes."""
         self._call("pg_ctl", "-D", self.data, "-w", "promote")
 
-    def connect(self, seconds=20):
-        """A new connection. It waits for a server that is started at the same time."""
+    def connect(self, schema="public", seconds=20):
+        """A new connection, to tables of a schema. It waits for a server that is started at the same time."""
         import psycopg2
 
         until = time.monotonic() + seconds
         while True:
             try:
-                return psycopg2.connect(host=str(self.folder), port=self.port, user="tester", dbname="postgres")
+                words = {"host": str(self.folder), "port": self.port, "user": "tester", "dbname": "postgres"}
+                return psycopg2.connect(**words, options=f"-c search_path={schema}")
             except psycopg2.OperationalError:
                 if time.monotonic() > until:
                     raise
