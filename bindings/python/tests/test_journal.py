@@ -5,10 +5,12 @@ import unittest
 
 from back_ends import IS_CTYPES
 from kovshenul import (
+    APPEND,
     GRANT,
     INSPECT,
     READ,
     TAKE,
+    WRITE,
     Auditor,
     BadEntry,
     BadLimits,
@@ -17,6 +19,7 @@ from kovshenul import (
     BadWorkers,
     Cell,
     Denied,
+    Edge,
     Limits,
     Log,
     Max,
@@ -30,6 +33,7 @@ from kovshenul import (
     Store,
     Sum,
     Target,
+    Vertex,
     VerticesFull,
     WorkersFull,
     end_text,
@@ -461,6 +465,47 @@ class Snapshots(unittest.TestCase):
         for text in (None, b"kovshenul picture 1", 7):
             self.assertRaises(TypeError, Snapshot, text)
             self.assertRaises(TypeError, Auditor.reopen, text)
+
+    def test_what_it_shows(self):
+        values, edges = [Cell(7), Log(2), Max(3)], [(2, 1, APPEND), (0, 1, READ | GRANT), (0, 2, WRITE)]
+        with Store(values, edges, Limits(20, 8, 4)) as store, Auditor(values, edges, Limits(20, 8, 4)) as auditor:
+            for number in (1, 8, 9):
+                store.append(2, 1, number)
+            made = store.create(0, READ | WRITE, Sum(2**64 - 1)), store.create(1, READ, Cell(0))
+            store.remove(1, made[1], READ)
+            store.retire(1)
+            auditor.feed(store)
+            snapshot = auditor.snapshot()
+        self.assertEqual((snapshot.made, snapshot.limit, snapshot.entries), (5, 20, 7))
+        self.assertEqual([*snapshot.subjects()], [0, 2])
+        shown = [Vertex(0, Cell(7), (7,)), Vertex(1, Log(2), (8, 9)), Vertex(2, Max(3), (3,)), Vertex(3, Sum(2**64 - 1), (2**64 - 1,))]
+        self.assertEqual([*snapshot.vertices()], shown)
+        rights = [(0, 1, READ | GRANT), (0, 2, WRITE), (0, 3, READ | WRITE), (2, 1, APPEND)]
+        self.assertEqual([*snapshot.edges()], [Edge(*edge) for edge in rights])
+        empty = Snapshot("kovshenul picture 1\nmade 3 20 8\nworker 1\nvertex 1 l64\npicture 1")
+        self.assertEqual(([*empty.vertices()], [*empty.edges()]), ([Vertex(1, Log(64), ())], []))
+
+    def test_more_names(self):
+        with opened() as first, Auditor(*opening()) as auditor:
+            told(first, 1, 50)
+            auditor.feed(first)
+            snapshot, limits = auditor.snapshot(), opening()[2]
+        raised = snapshot.with_names(snapshot.made + 3)
+        self.assertEqual((raised.made, raised.limit, raised.entries), (snapshot.made + 3, snapshot.limit, snapshot.entries))
+        shown = [*raised.vertices()], [*raised.edges()], [*raised.subjects()]
+        self.assertEqual(shown, ([*snapshot.vertices()], [*snapshot.edges()], [*snapshot.subjects()]))
+        self.assertEqual(snapshot.with_names(snapshot.made), snapshot)
+        with Store.reopen(raised, limits) as store, Store.reopen(snapshot, limits) as other:
+            names = [it.create(next(snapshot.subjects()), READ, Cell(0)) for it in (other, store)]
+        self.assertEqual(names, [snapshot.made, snapshot.made + 3])
+        full = snapshot.with_names(snapshot.limit)
+        with Store.reopen(full, limits) as store:
+            self.assertRaises(VerticesFull, store.create, next(full.subjects()), READ, Cell(0))
+        for made in (snapshot.made - 1, 0, snapshot.limit + 1):
+            self.assertRaises(BadLimits, snapshot.with_names, made)
+        for made in (-1, 2**64):
+            self.assertRaises(OverflowError, snapshot.with_names, made)
+        self.assertRaises(TypeError, snapshot.with_names, "9")
 
     def test_stopped(self):
         with opened() as store, Auditor(*opening()) as auditor:

@@ -359,6 +359,58 @@ fn an_auditor_goes_on_from_a_snapshot() {
 }
 
 #[test]
+fn what_a_snapshot_shows() {
+    let values = [Value::Cell(7), Value::Log(2), Value::Max(3)];
+    let edge = |from, to, rights| Edge { from, to, rights };
+    let edges = [edge(2, 1, Rights::APPEND), edge(0, 1, Rights::READ | Rights::GRANT)];
+    let mut store = Store::open(&values, &edges, &limits(20)).unwrap();
+    let mut auditor = Auditor::open(&values, &edges, &limits(20)).unwrap();
+    for number in [1, 8, 9] {
+        store.append(2, 1, number).unwrap();
+    }
+    store.create(0, Rights::WRITE, Value::Sum(u64::MAX)).unwrap();
+    let lost = store.create(1, Rights::READ, Value::Cell(0)).unwrap();
+    store.remove(1, lost, Rights::READ).unwrap();
+    store.retire(1).unwrap();
+    auditor.feed(&store).unwrap();
+    let snapshot = auditor.snapshot().unwrap();
+    assert_eq!((snapshot.made(), snapshot.limit(), snapshot.entries()), (5, 20, 7));
+    assert_eq!(snapshot.subjects().collect::<Vec<u64>>(), [0, 2]);
+    let shown: Vec<(u64, Value, Vec<u64>)> = snapshot.vertices().map(|it| (it.name, it.value, it.numbers)).collect();
+    let wanted = [
+        (0, Value::Cell(7), vec![7]),
+        (1, Value::Log(2), vec![8, 9]),
+        (2, Value::Max(3), vec![3]),
+        (3, Value::Sum(u64::MAX), vec![u64::MAX]),
+    ];
+    assert_eq!(shown, wanted);
+    let wanted = [edges[1], edge(0, 3, Rights::WRITE), edges[0]];
+    assert_eq!(snapshot.edges().collect::<Vec<Edge>>(), wanted);
+    let empty: Snapshot = "kovshenul picture 1\nmade 3 20 8\nworker 1\nvertex 1 l64\npicture 1".parse().unwrap();
+    assert!(empty.vertices().all(|it| it.numbers.is_empty()) && empty.edges().count() == 0);
+}
+
+#[test]
+fn a_snapshot_with_more_names() {
+    let mut auditor = auditor(20);
+    let mut first = opened(20);
+    first.create(0, Rights::READ, Value::Cell(0)).unwrap();
+    auditor.feed(&first).unwrap();
+    let snapshot = auditor.snapshot().unwrap();
+    let raised = snapshot.with_names(9).unwrap();
+    assert_eq!((raised.made(), raised.limit(), raised.entries()), (9, 20, 1));
+    assert!(raised.vertices().eq(snapshot.vertices()) && raised.edges().eq(snapshot.edges()));
+    assert_eq!(snapshot.with_names(3), Ok(snapshot.clone()));
+    let mut store = Store::reopen(&raised, &limits(20)).unwrap();
+    assert_eq!(store.create(0, Rights::READ, Value::Cell(0)), Ok(9));
+    let mut full = Store::reopen(&snapshot.with_names(20).unwrap(), &limits(20)).unwrap();
+    assert_eq!(full.create(0, Rights::READ, Value::Cell(0)), Err(Error::VerticesFull));
+    for made in [0, 2, 21, u64::MAX] {
+        assert_eq!(snapshot.with_names(made), Err(Error::BadLimits));
+    }
+}
+
+#[test]
 fn a_store_goes_on_from_a_snapshot() {
     let (mut first, mut whole) = (opened(20), auditor(20));
     let mut dice = Dice(10);
