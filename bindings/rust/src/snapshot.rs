@@ -5,7 +5,7 @@
 use crate::error::served;
 use crate::raw::{self, RawAuditor, RawSnapshot, RawStore};
 use crate::text::text_of;
-use crate::{Edge, Error, Limits, Rights, Value};
+use crate::{Edge, Error, Limits, Value};
 use std::fmt;
 use std::ptr::null_mut;
 use std::str::FromStr;
@@ -45,6 +45,9 @@ pub struct Vertex {
 
 // What would be right.
 const DUE: &str = "not as it is due in the text of a snapshot, which begins with 'kovshenul picture 1' and ends with 'picture COUNT'";
+
+// Why each part of a text is as it is due.
+const ACCEPTED: &str = "the library has accepted the text";
 
 /// A text isn't that of a snapshot, or memory ran out.
 #[derive(Clone, Copy, PartialEq, Eq, Debug)]
@@ -110,7 +113,7 @@ impl Snapshot {
     /// Each vertex that an active worker reaches, and each active worker, by rising name.
     pub fn vertices(&self) -> impl Iterator<Item = Vertex> + '_ {
         self.lines("vertex ").map(|line| {
-            let (name, stored) = line.split_once(' ').unwrap_or((line, ""));
+            let (name, stored) = line.split_once(' ').expect(ACCEPTED);
             let (value, numbers) = stored_by(stored);
             Vertex {
                 name: number(name),
@@ -123,12 +126,12 @@ impl Snapshot {
     /// Each edge between these vertices, by rising [`from`](Edge::from) and then by rising [`to`](Edge::to).
     pub fn edges(&self) -> impl Iterator<Item = Edge> + '_ {
         self.lines("edge ").map(|line| {
-            let mut words = line.split(' ');
-            let (from, to, letters) = (words.next(), words.next(), words.next());
+            let (from, rest) = line.split_once(' ').expect(ACCEPTED);
+            let (to, letters) = rest.split_once(' ').expect(ACCEPTED);
             Edge {
-                from: from.map_or(0, number),
-                to: to.map_or(0, number),
-                rights: letters.and_then(|letters| letters.parse().ok()).unwrap_or(Rights::READ),
+                from: number(from),
+                to: number(to),
+                rights: letters.parse().expect(ACCEPTED),
             }
         })
     }
@@ -146,7 +149,7 @@ impl Snapshot {
     /// # Ok::<(), Box<dyn std::error::Error>>(())
     /// ```
     pub fn with_names(&self, made: u64) -> Result<Snapshot, Error> {
-        let [now, limit, entries] = self.counts();
+        let [now, limit, _] = self.counts();
         if made < now || limit < made {
             return Err(Error::BadLimits);
         }
@@ -157,14 +160,14 @@ impl Snapshot {
         match raised.place() {
             Ok(_) => Ok(raised),
             Err(NoSnapshot::OutOfMemory) => Err(Error::OutOfMemory),
-            Err(NoSnapshot::Line(line)) => unreachable!("line {line} of a snapshot with {made} of {limit} names, after {entries} entries"),
+            Err(NoSnapshot::Line(_)) => Err(Error::BadLimits),
         }
     }
 
     // How many names were given, how many may be, and how many entries came before.
     fn counts(&self) -> [u64; 3] {
         let mut counts = self.lines("made ").flat_map(|line| line.split(' ')).map(number);
-        [(); 3].map(|()| counts.next().unwrap_or(0))
+        [(); 3].map(|()| counts.next().expect(ACCEPTED))
     }
 
     // What follows the word in each line that begins with it.
@@ -207,9 +210,9 @@ impl Snapshot {
     }
 }
 
-// A number of a text that is a snapshot's.
+// A number of the text.
 fn number(digits: &str) -> u64 {
-    digits.parse().unwrap_or(0)
+    digits.parse().expect(ACCEPTED)
 }
 
 // The law of a vertex and its numbers, by their text: `s42`, or `l2:7,8` for a log of at most two.
@@ -222,7 +225,7 @@ fn stored_by(text: &str) -> (Value, Vec<u64>) {
         "m" => (Value::Max(number(first)), vec![number(first)]),
         _ => {
             let numbers = rest.split(',').filter(|it| !it.is_empty()).map(number);
-            (Value::Log(first.parse().unwrap_or(1)), numbers.collect())
+            (Value::Log(first.parse().expect(ACCEPTED)), numbers.collect())
         }
     }
 }
