@@ -52,7 +52,7 @@ from ._refusals import (
     VerticesFull,
     WorkersFull,
 )
-from ._snapshot import Snapshot
+from ._snapshot import Snapshot, Vertex
 from ._store import Store
 from ._texts import end_text, opening_text
 from ._values import MOST_NUMBERS, Cell, Counts, Edge, Kind, Limits, Log, Max, Rights, Sum, Target, Value
@@ -110,6 +110,7 @@ __all__ = [
     "TAKE",
     "Target",
     "Value",
+    "Vertex",
     "VerticesFull",
     "View",
     "WRITE",
