@@ -877,7 +877,7 @@ class OverPostgres(Cases, unittest.TestCase):
 
     def test_a_statement_that_failed_in_the_body(self):
         store, note = self.with_three_entries()
-        with self.assertRaises(Lost), self.journal.transaction() as cursor:
+        with self.assertRaisesRegex(Lost, "a statement of the transaction failed"), self.journal.transaction() as cursor:
             self.insert(cursor)
             try:
                 cursor.execute("SELECT * FROM nothing")
