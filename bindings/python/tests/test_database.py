@@ -601,6 +601,24 @@ class Cases:
         self.assertEqual(Journal(self.connected()).resume(last=Last(2, "pruned")).entries(), 6)
         self.assertEqual((self.journal.prune(), self.journal.prune(), self.journal.prune(0)), (6, 6, 6))
 
+    def test_a_prune_in_the_middle_of_a_read(self):
+        """The read sees the tables of one moment, so no row is missing."""
+        store, note = self.with_three_entries()
+        follower, pruning = Follower(self.connected()), Journal(self.connected())
+        with self.journal.transaction():
+            store.write(0, note, 1)
+            store.write(0, note, 2)
+        real, pruned = follower._tables.first, []
+
+        def first():
+            place = real()
+            pruned.append(pruning.prune())
+            return place
+
+        with mock.patch.object(follower._tables, "first", first):
+            self.assertEqual(follower.follow(), 5)
+        self.assertEqual((pruned[0], follower.label(1, note)), (5, READ))
+
     def test_two_prune_at_a_time(self):
         store, note = self.with_three_entries()
         feed = Journal._feed
