@@ -51,7 +51,7 @@ from ._refusals import (
     refusal,
 )
 from ._rules import Denial, Full, Graph
-from ._snapshot import Snapshot
+from ._snapshot import Snapshot, Vertex
 from ._texts import end_text, opening_text
 from ._values import MOST_NUMBERS, Cell, Counts, Edge, Kind, Limits, Log, Max, Rights, Sum, Target, Value
 from .journal import Create, Deed, Entry, Reply, Spawn
