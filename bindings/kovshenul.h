@@ -9,9 +9,9 @@
    Each call returns a status. The library's exports have contracts, which are proved (crates/tg_c/specs). They say what a
    status below 16 means, and when each other status comes, with two exceptions. TG_OUT_OF_MEMORY may come from each call that
    needs memory. TG_HEAP_FULL comes only where the limits may leave no room. Only of tg_open is it proved too that it comes there.
-   The files kovshenul.c and naming.c come before the exports, and are tested and not proved. They have the use of NULL,
-   tg_apply_all (which makes proved calls one after the other), the texts and tg_version. Nothing checks what this header asks
-   of its caller.
+   The files kovshenul.c, naming.c and showing.c come before the exports, and are tested and not proved. They have the use of
+   NULL, tg_apply_all (which makes proved calls one after the other), the texts, tg_snapshot_next and tg_version. Nothing checks
+   what this header asks of its caller.
 
    What the caller in C owes:
    - Each pointer is to memory of the stated type. No other argument of the call overlaps it, and nobody else uses it while the
@@ -555,6 +555,32 @@ tg_status tg_snapshot_read(tg_snapshot *snapshot, const char *text, size_t lengt
 
 /* Gives back all memory of the snapshot. *snapshot is closed then, and may hold another one. */
 tg_status tg_snapshot_close(tg_snapshot *snapshot);
+
+/* What a part of a snapshot says. Numbers without a name are kept for later editions. */
+enum {
+    TG_PART_COUNTS = 0,       /* made, limit and entries */
+    TG_PART_WORKER = 1,       /* the name of an active worker */
+    TG_PART_VERTEX = 2,       /* the name of a vertex, and what it stores */
+    TG_PART_EDGE = 3          /* the rights of one vertex over another */
+};
+
+/* A part of a snapshot. A field is 0 if the part doesn't have it: 80 bytes. */
+typedef struct tg_part {
+    uint32_t kind;            /* TG_PART_COUNTS .. TG_PART_EDGE */
+    uint32_t law, most;       /* of a vertex: as in its tg_value */
+    uint64_t name;            /* of a worker or a vertex */
+    uint64_t from, to, rights;      /* of an edge */
+    uint64_t made;            /* of the counts: how many names were given, which is the name of the next vertex */
+    uint64_t limit, entries;  /* of the counts: how many names may be given, and how many entries came before */
+    uint64_t number_count;    /* of a vertex: how many numbers it stores */
+} tg_part;
+
+/* Reads the next part of a snapshot from its text: the counts first, then each worker, each vertex and each edge, by rising names.
+   *at is 0 at first. Each call moves it to where the next part begins in the text. The first `room` of a vertex's numbers go to
+   numbers. No memory is taken. Hand in a whole text that tg_snapshot_text wrote, or that tg_snapshot_read accepted, because only
+   these calls judge a text. TG_BAD_PLACE comes after the last part, and TG_BAD_VALUES if no part begins at *at. A refusal writes
+   to no out parameter. This call isn't proved. */
+tg_status tg_snapshot_next(const char *text, size_t length, size_t *at, tg_part *part, uint64_t *numbers, size_t room);
 
 /* ---- Questions about the future
 

@@ -3,7 +3,7 @@ use crate::opened::cells;
 use std::alloc::{AllocError, Global};
 use std::fmt::Display;
 use tg_helpers::HelpersFault;
-use tg_journal::AuditFault;
+use tg_journal::{AuditFault, PartFault};
 use tg_model::{
     Cause, Denial, Edge, EdgeList, Graph, ModelFault, Opening, OpeningFault, Reply, Rule,
 };
@@ -84,6 +84,37 @@ fn are_faults_shown(alloc: Global) -> [bool; 3] {
 #[test]
 fn faults_that_no_row_meets(rt: HostRuntime) {
     assert_eq!(rt; are_faults_shown(rt.alloc()), [true; 3]);
+}
+
+// Why a part is refused, and why an audit stops in it.
+fn are_faults_of_parts_shown(alloc: Global) -> [bool; 3] {
+    let bad_place = PartFault::BadPlace {
+        due: 1,
+        start: 2,
+        end: 3,
+    };
+    [
+        is_shown(
+            alloc,
+            bad_place,
+            "the part has entries 2..3, and entry 1 comes next: feed the part that has it",
+        ),
+        is_shown(
+            alloc,
+            PartFault::BadEntry { at: 4 },
+            "entry 4 is not legal: the journal was altered, or is of another opening",
+        ),
+        is_shown(
+            alloc,
+            PartFault::OutOfMemory { at: 5 },
+            "out of memory at entry 5: free memory, and feed the same part again",
+        ),
+    ]
+}
+
+#[test]
+fn faults_of_parts(rt: HostRuntime) {
+    assert_eq!(rt; are_faults_of_parts_shown(rt.alloc()), [true; 3]);
 }
 
 // Why a heap has no room, why helpers are refused, and why a plain graph serves nobody.

@@ -1,17 +1,15 @@
 //! Hands of two sessions that take turns: what each hand is answered, which receipts it adds, and which entries the
 //! closed store has.
-ghost use Rattle.tg_shared.specs.Sessions.{MayShare};
-
 use super::opened::{is_answered, read_and_write};
+use super::rounds::{RoundWay, play_round};
 use crate::opened::{cells, opening_with};
 use std::alloc::Global;
-use std::marker::Brand;
 use std::sync::Wait;
 use tg_journal::{Entry, Journal};
 use tg_model::{Cause, Command, Deed, Denial, Edge, Rule, Verb};
 use tg_payload::CellPayload;
 use tg_rights::{Label, Right, Rights};
-use tg_shared::{Blanks, OwnHand, Receipt, Round, Session, Shared, SharedStore, close};
+use tg_shared::{OwnHand, Receipt, Round, Session, SharedStore};
 use tg_store::{ApplyFault, Handed, Limits, Store};
 
 // The worker from whom rights over the target are taken.
@@ -30,9 +28,9 @@ const NOBODY: u64 = 9;
 // receipt, or receipts whose places don't follow one another.
 type HandSeen = (Result<Handed, ApplyFault>, Option<(u64, u64)>);
 
-// What is seen of the hands.
+/// What is seen of the hands.
 #[derive(Clone, Copy, PartialEq, Eq, Debug)]
-struct TurnsSeen {
+pub(crate) struct TurnsSeen {
     // three hands that are served
     served: [HandSeen; 3],
     // five hands that are denied
@@ -175,8 +173,8 @@ fn take_turns<L: Round, R: Wait>(
     }
 }
 
-// The same with the sessions of the store, of which there have to be five.
-fn turns_of<L: Round, R: Wait>(
+/// The same with the sessions of the store, of which there have to be five.
+pub(crate) fn turns_of<L: Round, R: Wait>(
     rt: &R,
     store: &SharedStore<L, CellPayload>,
     sessions: &mut [Session<L>],
@@ -246,62 +244,13 @@ fn closed_seen(alloc: Global, store: &Store<CellPayload>) -> Option<ClosedSeen> 
     })
 }
 
-// What is seen of the store, if it was closed.
-fn closed<L: Round>(
-    alloc: Global,
-    store: SharedStore<L, CellPayload>,
-    sessions: Vec<Session<L>>,
-) -> Option<ClosedSeen> {
-    let store = close(store, sessions).ok()?;
-    let seen = closed_seen(alloc, &store);
-    store.let_go();
-    seen
-}
-
-fn seen_of_shared<L: Round, R: Wait>(
-    rt: &R,
-    alloc: Global,
-    shared: Shared<L, CellPayload>,
-) -> Option<StorySeen> {
-    let Shared {
-        store,
-        mut sessions,
-        keeper,
-    } = shared;
-    drop(keeper);
-    let turns = turns_of(rt, &store, &mut sessions);
-    let closed = closed(alloc, store, sessions);
-    Some((turns?, closed))
-}
-
-fn seen_of_store<L: Round, R: Wait>(
-    rt: &R,
-    alloc: Global,
-    blanks: Blanks,
-    store: Store<CellPayload>,
-) -> Option<StorySeen>
-    requires shareable { MayShare L.name L.parts L.keeper L.start blanks store }
-{
-    match SharedStore::<L, CellPayload>::new(alloc, blanks, store) {
-        Ok(shared) => seen_of_shared(rt, alloc, shared),
-        Err(refused) => {
-            refused.store.let_go();
-            None
-        }
-    }
-}
-
-// Shares the store whole.
-fn share<R: Wait>(rt: &R, alloc: Global, store: Store<CellPayload>) -> Option<StorySeen> {
-    let Ok(blanks) = Blanks::new(alloc, store.opening().max_vertices() + 1) else {
-        store.let_go();
-        return None;
-    };
-    seen_of_store::<Brand, R>(rt, alloc, blanks, store)
-}
-
+// Shares a store, and looks at it once it is closed.
 fn story<R: Wait>(rt: &R, alloc: Global) -> Option<StorySeen> {
-    share(rt, alloc, open(alloc)?)
+    let (seen, store) = play_round(rt, alloc, open(alloc)?, RoundWay::Hands);
+    let store = store?;
+    let closed = closed_seen(alloc, &store);
+    store.let_go();
+    Some((seen.turns?, closed))
 }
 
 // A hand that is served, whose first receipt has this place.

@@ -1,25 +1,22 @@
 //! A shared store of two workers. Its sessions get answers, and its journal is handed out in two parts. One session is
 //! taken over, and one worker is ended. In the end the store is taken back.
 ghost use Rattle.std.specs.Prelude.{◌≡◌, true};
-ghost use Rattle.tg_shared.specs.Sessions.{MayShare};
 
 use super::opened::{Counted, counted, is_answered, makes, open_store, spawned_by};
+use super::rounds::{RoundWay, SharedRound, play_round};
 use std::alloc::Global;
-use std::marker::Brand;
 use std::sync::Wait;
 use tg_model::Command;
 use tg_payload::CellPayload;
-use tg_shared::{
-    Blanks, Keeper, Receipt, Round, Session, Shared, SharedStore, close_with, receipts_match,
-};
+use tg_shared::{Receipt, Round, Session, SharedStore, receipts_match};
 use tg_store::{ApplyFault, Store};
 
 // A part of a journal: the place of its first entry, the one after its last, and whether receipts match it.
 type Part = (u64, u64, bool);
 
-// What is seen while the store is shared: where it can't be, nothing.
+/// What is seen while the store is shared.
 #[derive(Clone, Copy)]
-struct StoryTold {
+pub(crate) struct StoryTold {
     // the bits of the rights that each of the two sessions holds over the vertex that the first session made
     labels: [u8; 2],
     // two parts, each with the receipts of the first
@@ -32,21 +29,6 @@ struct StoryTold {
     held_by_ended: [u8; 2],
     // why a name that is no worker's can't be ended, and whether the first session is answered after that
     nobody: (Option<ApplyFault>, bool),
-}
-
-const NOTHING: StoryTold = StoryTold {
-    labels: [0, 0],
-    parts: [(0, 0, false), (0, 0, false)],
-    taken_over: [false, false],
-    ended: (None, None),
-    held_by_ended: [0, 0],
-    nobody: (None, false),
-};
-
-// A shared store with its keeper.
-struct SharedRound<L: Round> {
-    store: SharedStore<L, CellPayload>,
-    keeper: Keeper<L>,
 }
 
 // The bits of what the session's worker holds over a vertex, or 0 if it holds nothing.
@@ -176,19 +158,19 @@ fn tell_of_two<L: Round, R: Wait>(
     }
 }
 
-// Plays the story with the sessions of a store. There have to be two sessions.
-fn tell<L: Round, R: Wait>(
+/// Plays the story with the sessions of a store. There have to be two sessions.
+pub(crate) fn tell<L: Round, R: Wait>(
     rt: &R,
     alloc: Global,
     kept: &mut SharedRound<L>,
     sessions: &mut [Session<L>],
-) -> StoryTold
+) -> Option<StoryTold>
     requires in_parts { L.start.in_parts ≡ true }
     requires may_end { L.start.may_end ≡ true }
 {
     match sessions {
-        [first, second] => tell_of_two(rt, alloc, kept, first, second),
-        _ => NOTHING,
+        [first, second] => Some(tell_of_two(rt, alloc, kept, first, second)),
+        _ => None,
     }
 }
 
@@ -197,83 +179,28 @@ fn tell<L: Round, R: Wait>(
 // holds them. The last are its counts.
 type Back = ([u64; 4], Counted);
 
-// What is seen of the shared store, and of the store that is taken back.
-type StorySeen = (StoryTold, Option<Back>);
-
-// The numbers of the entries, if the store was taken back.
-fn entries_of<L: Round>(keeper: &Keeper<L>, closed: Option<Store<CellPayload>>) -> Option<Back> {
-    let store = closed?;
+// The numbers of a store that was taken back, with those of its keeper.
+fn back_of(store: &Store<CellPayload>, of_keeper: [u64; 2]) -> Back {
+    let [entered, next] = of_keeper;
     let journal = store.journal();
-    let entries = [
-        keeper.entered(),
-        keeper.next(),
-        journal.len(),
-        journal.start(),
-    ];
-    let counted = counted(&store);
+    (
+        [entered, next, journal.len(), journal.start()],
+        counted(store),
+    )
+}
+
+// What is seen of the shared store, and of the store that is taken back.
+fn story<R: Wait>(rt: &R, alloc: Global) -> Option<(StoryTold, Back)> {
+    let (seen, store) = play_round(rt, alloc, open_store(alloc)?, RoundWay::Tells);
+    let store = store?;
+    let back = back_of(&store, seen.of_keeper);
     store.let_go();
-    Some((entries, counted))
-}
-
-fn seen_of_shared<L: Round, R: Wait>(
-    rt: &R,
-    alloc: Global,
-    mut kept: SharedRound<L>,
-    mut sessions: Vec<Session<L>>,
-) -> StorySeen
-    requires in_parts { L.start.in_parts ≡ true }
-    requires may_end { L.start.may_end ≡ true }
-{
-    let told = tell(rt, alloc, &mut kept, &mut sessions);
-    let SharedRound { store, mut keeper } = kept;
-    let closed = close_with(store, sessions, &mut keeper).ok();
-    (told, entries_of(&keeper, closed))
-}
-
-fn seen_of_store<L: Round, R: Wait>(
-    rt: &R,
-    alloc: Global,
-    blanks: Blanks,
-    store: Store<CellPayload>,
-) -> StorySeen
-    requires shareable { MayShare L.name L.parts L.keeper L.start blanks store }
-    requires in_parts { L.start.in_parts ≡ true }
-    requires may_end { L.start.may_end ≡ true }
-{
-    match SharedStore::<L, CellPayload>::new(alloc, blanks, store) {
-        Ok(
-            Shared {
-                store,
-                sessions,
-                keeper,
-            },
-        ) => seen_of_shared(rt, alloc, SharedRound { store, keeper }, sessions),
-        Err(refused) => {
-            refused.store.let_go();
-            (NOTHING, None)
-        }
-    }
-}
-
-// Shares the store, so that its keeper may take parts and end workers.
-fn share<R: Wait>(rt: &R, alloc: Global, store: Store<CellPayload>) -> StorySeen {
-    let Ok(blanks) = Blanks::new(alloc, store.opening().max_vertices() + 1) else {
-        store.let_go();
-        return (NOTHING, None);
-    };
-    seen_of_store::<Brand, R>(rt, alloc, blanks, store)
-}
-
-fn story<R: Wait>(rt: &R, alloc: Global) -> StorySeen {
-    match open_store(alloc) {
-        Some(store) => share(rt, alloc, store),
-        None => (NOTHING, None),
-    }
+    Some((seen.told?, back))
 }
 
 // What the sessions see of the store while it is shared.
 fn while_shared<R: Wait>(rt: &R, alloc: Global) -> StoryTold {
-    story(rt, alloc).0
+    story(rt, alloc).unwrap().0
 }
 
 // A session gets the label of its own worker.
@@ -325,5 +252,8 @@ fn nobody_else_is_ended(rt: HostRuntime) {
 // collect, and it didn't.
 #[test]
 fn a_shared_store_is_cut_and_closes(rt: HostRuntime) {
-    assert_eq!(rt; story(&rt, rt.alloc()).1, Some(([2, 4, 8, 4], [5, 0, 0])));
+    assert_eq!(rt;
+        story(&rt, rt.alloc()).map(|seen| seen.1),
+        Some(([2, 4, 8, 4], [5, 0, 0]))
+    );
 }
