@@ -1,16 +1,17 @@
-/* Kovshenul for C: an object store with take-grant access control.
+/* Kovshenul for C: a reference monitor, which keeps who may do what to which object in a store, by the take-grant rules.
 
    A store has vertices, named 0, 1, 2 and so on: first those of the opening, then each that is made. One vertex holds rights
    over another. Some vertices are active subjects, which this header calls workers. These are the workers of the opening, and
    each that is spawned, until it retires. A worker asks for commands. A command is served exactly where the take-grant rules
-   allow it. At most 64 workers are active at a time. No name is used twice.
+   allow it, unless the call is refused, for example if memory runs out. At most 64 workers are active at a time. No name is used
+   twice.
 
    Each call returns a status. The library's exports have contracts, which are proved (crates/tg_c/specs). They say what a
    status below 16 means, and when each other status comes, with two exceptions. TG_OUT_OF_MEMORY may come from each call that
-   needs memory. TG_HEAP_FULL comes only where the limits may leave no room, and only of tg_open is it proved that it comes
-   then. The files kovshenul.c and naming.c come before the exports, and are tested and not proved. They have the use of NULL,
-   tg_apply_all (which makes proved calls one after the other), the texts and tg_version. Nothing checks what this header asks
-   of its caller.
+   needs memory. TG_HEAP_FULL comes only where the limits may leave no room. Only of tg_open is it proved too that it comes there.
+   The files kovshenul.c, naming.c and showing.c come before the exports, and are tested and not proved. They have the use of
+   NULL, tg_apply_all (which makes proved calls one after the other), the texts, tg_snapshot_next and tg_version. Nothing checks
+   what this header asks of its caller.
 
    What the caller in C owes:
    - Each pointer is to memory of the stated type. No other argument of the call overlaps it, and nobody else uses it while the
@@ -93,10 +94,13 @@ enum {
     TG_DONE = 0,
     TG_DENIED = 1,            /* the rules don't allow it. Only the journal changed, which has the entry */
 
-    TG_NOT_OPEN = 16,         /* exactly where the store, auditor, snapshot, answer or view is closed, and no argument is TG_BAD_.. or TG_NOT_AUDITED */
+    TG_NOT_OPEN = 16,         /* exactly where the store, auditor, snapshot, answer or view is closed, and no refusal comes before it:
+                                 TG_ALREADY_OPEN, TG_NOT_AUDITED, or TG_BAD_.. of an argument that the call looks at first */
     TG_ALREADY_OPEN = 17,     /* exactly where what is to be opened is open; tg_could, tg_view_open: where the answer or view is open, and no bits are bad */
 
-    TG_OUT_OF_MEMORY = 32,    /* malloc or realloc returned no memory. Make the same call again. Only TG_BAD_ENTRY, and TG_BAD_EDGE of a supposed edge, are looked at later */
+    TG_OUT_OF_MEMORY = 32,    /* malloc or realloc returned no memory. Make the same call again. It may come in the place of
+                                 TG_HEAP_FULL (but of tg_open), TG_VERTICES_FULL, TG_WORKERS_FULL, TG_BAD_ENTRY, TG_BAD_VALUES of
+                                 tg_snapshot_read, and TG_BAD_EDGE of a supposed edge */
     TG_HEAP_FULL = 33,        /* the limits leave no cell or block. Call tg_collect, and try again */
     TG_VERTICES_FULL = 34,    /* tg_create, tg_spawn: max_vertices were made. The journal has an entry of it */
     TG_WORKERS_FULL = 35,     /* tg_spawn: 64 workers are active, and a vertex may be made. The journal has an entry of it */
@@ -110,7 +114,8 @@ enum {
     TG_BAD_WORKERS = 80,      /* tg_open: not from 1 to 64 workers; tg_reopen: the snapshot has no worker */
     TG_BAD_LIMITS = 81,       /* tg_open, tg_reopen: a limit is out of its range, or isn't the snapshot's; tg_apply_all: more than 1,024 commands */
     TG_BAD_EDGE = 82,         /* an edge from a vertex to itself; tg_open: an end that is no worker; as_if: an end that no worker reaches */
-    TG_BAD_VALUES = 83,       /* tg_resume, tg_entry_text: exactly where tg_entry writes no entry so; tg_snapshot_read: no snapshot's text; tg_open: kept */
+    TG_BAD_VALUES = 83,       /* tg_resume, tg_entry_text: exactly where tg_entry writes no entry so; tg_snapshot_read: no snapshot's
+                                 text. It is kept for later editions of tg_open */
 
     TG_BAD_ENTRY = 96,        /* tg_auditor_feed, tg_resume: the entry at its place isn't legal; tg_audit: never, if no other wrote to its memory */
     TG_BAD_PLACE = 97,        /* tg_entry, tg_forget, tg_auditor_feed: no such entry is held; tg_resume: it isn't the next; tg_answer_turn: no such turn */
@@ -148,7 +153,7 @@ typedef struct tg_handing {
 
 /* The limits of a store: 24 bytes. */
 typedef struct tg_limits {
-    uint64_t max_vertices;        /* vertices that may ever be made, with the workers: from those of the opening to 2^48 */
+    uint64_t max_vertices;        /* vertices that may ever be made, the workers of the opening too: from their number to 2^48 */
     uint64_t max_blocks;          /* blocks of 64 cells of 64 bytes, in all: from 1 to 2^20, and at least one for each worker. They
                                      bound how many vertices live at once: 65,536 blocks held 3,595,117 of one row */
     uint64_t max_space_blocks;    /* blocks in one space of the heap: from 1 to 2^20 */
@@ -268,10 +273,10 @@ tg_status tg_rights_read(const char *letters, uint64_t *rights);
 
 /* Opens a store with as many workers as values, and with these edges between them. After a refusal *store is as it was.
 
-   The call looks at its arguments in this order, before it asks for memory, and returns the first fault: the values' laws
-   (TG_BAD_LAW), the edges' rights (TG_BAD_RIGHTS), the number of workers (TG_BAD_WORKERS), max_vertices (TG_BAD_LIMITS), the
-   edges' ends (TG_BAD_EDGE), the other limits (TG_BAD_LIMITS), and whether there may be a block for each worker (TG_HEAP_FULL).
-   If there is no fault, it returns TG_DONE or TG_OUT_OF_MEMORY. */
+   It is TG_ALREADY_OPEN exactly where the store is open. Otherwise the call looks at its arguments in this order, before it asks
+   for memory, and returns the first fault: the values' laws (TG_BAD_LAW), the edges' rights (TG_BAD_RIGHTS), the number of
+   workers (TG_BAD_WORKERS), max_vertices (TG_BAD_LIMITS), the edges' ends (TG_BAD_EDGE), the other limits (TG_BAD_LIMITS), and
+   whether there may be a block for each worker (TG_HEAP_FULL). If there is no fault, it returns TG_DONE or TG_OUT_OF_MEMORY. */
 tg_status tg_open(tg_store *store, const tg_value *workers, size_t worker_count, const tg_edge *edges, size_t edge_count,
                   const tg_limits *limits);
 
@@ -550,6 +555,32 @@ tg_status tg_snapshot_read(tg_snapshot *snapshot, const char *text, size_t lengt
 
 /* Gives back all memory of the snapshot. *snapshot is closed then, and may hold another one. */
 tg_status tg_snapshot_close(tg_snapshot *snapshot);
+
+/* What a part of a snapshot says. Numbers without a name are kept for later editions. */
+enum {
+    TG_PART_COUNTS = 0,       /* made, limit and entries */
+    TG_PART_WORKER = 1,       /* the name of an active worker */
+    TG_PART_VERTEX = 2,       /* the name of a vertex, and what it stores */
+    TG_PART_EDGE = 3          /* the rights of one vertex over another */
+};
+
+/* A part of a snapshot. A field is 0 if the part doesn't have it: 80 bytes. */
+typedef struct tg_part {
+    uint32_t kind;            /* TG_PART_COUNTS .. TG_PART_EDGE */
+    uint32_t law, most;       /* of a vertex: as in its tg_value */
+    uint64_t name;            /* of a worker or a vertex */
+    uint64_t from, to, rights;      /* of an edge */
+    uint64_t made;            /* of the counts: how many names were given, which is the name of the next vertex */
+    uint64_t limit, entries;  /* of the counts: how many names may be given, and how many entries came before */
+    uint64_t number_count;    /* of a vertex: how many numbers it stores */
+} tg_part;
+
+/* Reads the next part of a snapshot from its text: the counts first, then each worker, each vertex and each edge, by rising names.
+   *at is 0 at first. Each call moves it to where the next part begins in the text. The first `room` of a vertex's numbers go to
+   numbers. No memory is taken. Hand in a whole text that tg_snapshot_text wrote, or that tg_snapshot_read accepted, because only
+   these calls judge a text. TG_BAD_PLACE comes after the last part, and TG_BAD_VALUES if no part begins at *at. A refusal writes
+   to no out parameter. This call isn't proved. */
+tg_status tg_snapshot_next(const char *text, size_t length, size_t *at, tg_part *part, uint64_t *numbers, size_t room);
 
 /* ---- Questions about the future
 

@@ -1,13 +1,14 @@
 #!/usr/bin/env python3
-"""measure.py whole [LOG]                      what each crate takes of a whole `rt ci --anew`
+"""measure.py whole [LOG]                      what each crate takes of an `rt ci` that proves everything from nothing
 measure.py everyday                         how long a changed body is on its way to green
 measure.py functions CRATE                  which functions the last check of a crate from nothing took longest for
 measure.py goals CRATE                      which goals and lemmas its checks took longest for
 
 All run at the top of the repository that the script is in, and print Markdown.
 
-`whole` runs the gate once, from nothing, and writes what it says to LOG (out.txt in a temporary folder unless it is
-given). The total is the processor time of the gate and of all that it started, as the kernel counts it once they have
+`whole` runs `rt ci` once, from nothing, and writes what it says to LOG (out.txt in a temporary folder unless it is
+given). It gives `rt ci` the option `--anew` if the toolchain has that option. A toolchain without the option proves
+everything from nothing each time. The total is the processor time of the gate and of all that it started, as the kernel counts it once they have
 ended. The shares of the crates are sampled ten times a second, so a little is missing from each. It lists each edit that
 took more than 15 seconds of processor time, and its status is that of the gate.
 
@@ -162,10 +163,16 @@ def kind_of(pid):
     return crate, "tests" if "--test" in words else "proofs", ""
 
 
+def gate_from_nothing():
+    """The command that proves everything from nothing. A toolchain that can keep what it proved has an option for it."""
+    ran = subprocess.run(["rt", "help"], capture_output=True, text=True, check=False)
+    return ["rt", "ci", *["--anew"] * bool(re.search(r"--anew\b", ran.stdout + ran.stderr))]
+
+
 def whole(log):
-    place, began, before = where(), time.time(), seconds_of_children()
+    words, place, began, before = gate_from_nothing(), where(), time.time(), seconds_of_children()
     with open(log, "w", encoding="utf-8") as out:
-        gate = subprocess.Popen(["rt", "ci", "--anew"], cwd=TOP, stdin=subprocess.DEVNULL, stdout=out, stderr=subprocess.STDOUT)
+        gate = subprocess.Popen(words, cwd=TOP, stdin=subprocess.DEVNULL, stdout=out, stderr=subprocess.STDOUT)
         sampler = Sampler(gate.pid)
         status = gate.wait()
         sampler.stop()

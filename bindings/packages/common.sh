@@ -112,7 +112,7 @@ is_proved_program() {
 
 # A sum over what comes before the proved calls.
 sum_of_c() {
-    cat "$here/kovshenul.c" "$here/naming.c" "$here/writer.h" "$here/kovshenul.h" "$top/VERSION" | sum
+    cat "$here/kovshenul.c" "$here/naming.c" "$here/showing.c" "$here/writer.h" "$here/kovshenul.h" "$top/VERSION" | sum
 }
 
 # A sum over the library as it lies in 'out', or none where a part of it isn't there. An earlier version left a link there, which 'rt

@@ -56,6 +56,23 @@ SAME(offsetof(tg_denial, from), 8);
 SAME(offsetof(tg_denial, to), 16);
 SAME(offsetof(tg_denial, rights), 24);
 
+SAME(sizeof(tg_part), 80);
+SAME(offsetof(tg_part, kind), 0);
+SAME(offsetof(tg_part, law), 4);
+SAME(offsetof(tg_part, most), 8);
+SAME(offsetof(tg_part, name), 16);
+SAME(offsetof(tg_part, from), 24);
+SAME(offsetof(tg_part, to), 32);
+SAME(offsetof(tg_part, rights), 40);
+SAME(offsetof(tg_part, made), 48);
+SAME(offsetof(tg_part, limit), 56);
+SAME(offsetof(tg_part, entries), 64);
+SAME(offsetof(tg_part, number_count), 72);
+SAME(TG_PART_COUNTS, 0);
+SAME(TG_PART_WORKER, 1);
+SAME(TG_PART_VERTEX, 2);
+SAME(TG_PART_EDGE, 3);
+
 SAME(sizeof(tg_target), 16);
 SAME(offsetof(tg_target, to), 0);
 SAME(offsetof(tg_target, rights), 8);

@@ -1515,6 +1515,57 @@ static void snapshots(void) {
     WANT(tg_close(&store) == TG_DONE && tg_close(&fresh) == TG_DONE);
 }
 
+/* The parts of a snapshot's text, one after the other. */
+static void parts_of_a_snapshot(void) {
+    static const char text[] = "kovshenul picture 1\nmade 9 281474976710656 77\nworker 2\nvertex 2 c18446744073709551615\nvertex 5 s0\nvertex 6 m3\n"
+                               "vertex 7 l4:1,2,3\nvertex 8 l64\nedge 2 5 rwtgaluv\nedge 2 7 v\npicture 7\n";
+    static const tg_part wanted[] = {
+        { TG_PART_COUNTS, 0, 0, 0, 0, 0, 0, 9, UINT64_C(1) << 48, 77, 0 },
+        { TG_PART_WORKER, 0, 0, 2, 0, 0, 0, 0, 0, 0, 0 },
+        { TG_PART_VERTEX, TG_CELL, 0, 2, 0, 0, 0, 0, 0, 0, 1 },
+        { TG_PART_VERTEX, TG_SUM, 0, 5, 0, 0, 0, 0, 0, 0, 1 },
+        { TG_PART_VERTEX, TG_MAX, 0, 6, 0, 0, 0, 0, 0, 0, 1 },
+        { TG_PART_VERTEX, TG_LOG, 4, 7, 0, 0, 0, 0, 0, 0, 3 },
+        { TG_PART_VERTEX, TG_LOG, 64, 8, 0, 0, 0, 0, 0, 0, 0 },
+        { TG_PART_EDGE, 0, 0, 0, 2, 5, 255, 0, 0, 0, 0 },
+        { TG_PART_EDGE, 0, 0, 0, 2, 7, TG_FREE_V, 0, 0, 0, 0 },
+    };
+    static const uint64_t first[] = { 0, 0, UINT64_MAX, 0, 3, 1, 0, 0, 0 };
+    const size_t count = sizeof wanted / sizeof wanted[0], length = sizeof text - 1;
+    size_t at = 0;
+    tg_part part;
+    for (size_t i = 0; i < count; i++) {
+        numbers[0] = numbers[1] = UNTOUCHED;
+        WANT(tg_snapshot_next(text, length, &at, &part, numbers, 1) == TG_DONE && memcmp(&part, &wanted[i], sizeof part) == 0);
+        WANT(numbers[0] == (part.number_count > 0 ? first[i] : UNTOUCHED) && numbers[1] == UNTOUCHED);
+    }
+    size_t last = at;
+    memset(&part, 7, sizeof part);
+    WANT(tg_snapshot_next(text, length, &at, &part, numbers, 64) == TG_BAD_PLACE && at == last && part.kind == 0x07070707);
+    WANT(tg_snapshot_next(text, length - 1, &at, &part, numbers, 64) == TG_BAD_VALUES && at == last && part.kind == 0x07070707);
+    at = length + 1;
+    WANT(tg_snapshot_next(text, length, &at, &part, NULL, 0) == TG_BAD_VALUES && at == length + 1);
+    /* A text that is cut off anywhere ends with a part that is none. */
+    for (size_t cut = 0; cut < length; cut++) {
+        char *own = malloc(cut + 1);
+        tg_status status = TG_DONE;
+        WANT(own != NULL);
+        memcpy(own, text, cut);
+        for (at = 0; status == TG_DONE;)
+            status = tg_snapshot_next(own, cut, &at, &part, numbers, 64);
+        WANT(status == TG_BAD_VALUES && at <= cut);
+        free(own);
+    }
+    static const char *const none[] = { "vertex 1 x1\n", "vertex 1 c18446744073709551616\n", "vertex 1 l4294967296\n", "vertex 1 c1,\n", "edge 1 2 \n",
+                                        "edge 1 2 wr\n", "worker -1\n", "made 1 1 1\n", "vertex 1 l2:\n", "worker 1\r\n", "" };
+    for (size_t i = 0; i < sizeof none / sizeof none[0]; i++) {
+        char own[60];
+        at = 1;
+        snprintf(own, sizeof own, "\n%s", none[i]);
+        WANT(tg_snapshot_next(own, strlen(own), &at, &part, numbers, 64) == TG_BAD_VALUES && at == 1);
+    }
+}
+
 /* A store goes on from a snapshot, with its names, values and places. */
 static void a_store_goes_on_from_a_snapshot(void) {
     static const char nobody[] = "kovshenul picture 1\nmade 1 12 0\npicture 0\n";
@@ -1684,6 +1735,7 @@ int main(void) {
     texts_of_histories();
     closed_snapshots();
     snapshots();
+    parts_of_a_snapshot();
     a_store_goes_on_from_a_snapshot();
     each_byte_altered();
     puts("statuses ok");

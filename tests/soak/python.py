@@ -31,11 +31,26 @@ os.environ.setdefault("KOVSHENUL_LIBRARY", str(BINDINGS / "out" / "libkovshenul.
 sys.path.insert(0, str(BINDINGS / "python"))
 
 import kovshenul
-from kovshenul import APPEND, GRANT, INSPECT, NURSERY, READ, TAKE, WRITE, Auditor, Cell, Error, Limits, Log, Max, Store, Sum, journal
+from kovshenul import APPEND, GRANT, INSPECT, NURSERY, READ, TAKE, WRITE, Auditor, Cell, Error, Limits, Log, Max, Snapshot, Store, Sum, journal
 from kovshenul import _values
 
 OPENING = [Cell(0), Sum(1), Log(3)], [(0, 1, GRANT | INSPECT), (1, 0, TAKE | READ), (1, 2, READ | APPEND)], Limits(2**48, 4096)
 LONG_ROW = 70
+
+# What a store goes on from: entries, of which the last isn't legal after the others, and a snapshot.
+ENTRIES = [
+    journal.Entry(0, journal.Create(READ | WRITE, Log(2)), journal.Name(3)),
+    journal.Entry(0, journal.Write(3, 8), journal.Done()),
+    journal.Entry(0, journal.Read(3), journal.Values((8,))),
+    journal.Entry(1, journal.List(), journal.Edges(())),
+]
+SNAPSHOT = Snapshot("kovshenul picture 1\nmade 4 281474976710656 3\nworker 0\nvertex 0 c0\nvertex 3 l2:8\nedge 0 3 rw\npicture 3")
+
+
+def gone_on(entries):
+    """Opens a store that goes on from entries, and closes it."""
+    Store.resume(*OPENING, entries).close()
+
 
 # How much of each may be there at the end that wasn't after the first tenth.
 MOST_MORE = {"blocks": 300, "objects": 50, "references": 30, "bytes": 1_000_000}
@@ -104,6 +119,17 @@ def calls_of(store, auditor, view):
         lambda: Store([Cell(0), Log(2)], [(0, 1, READ)]),
         lambda: Store([Cell(0)], [(0, 0, READ)]),
         lambda: Auditor([Cell(0)], [], Limits(0)),
+        lambda: gone_on(ENTRIES[:3]),
+        lambda: gone_on(ENTRIES),
+        lambda: store.go_on(0, ENTRIES),
+        lambda: Snapshot(str(auditor.snapshot())),
+        lambda: Snapshot(SNAPSHOT.text[:-1]),
+        lambda: Store.reopen(SNAPSHOT, OPENING[2]).close(),
+        lambda: Store.reopen(SNAPSHOT),
+        lambda: Auditor.reopen(SNAPSHOT).close(),
+        lambda: [*SNAPSHOT.subjects(), *SNAPSHOT.vertices(), *SNAPSHOT.edges()],
+        lambda: SNAPSHOT.with_names(9),
+        lambda: SNAPSHOT.with_names(3),
     ]
 
 
@@ -203,17 +229,16 @@ def must_bear_refusals():
     """Whether each call with each of its first requests refused raises MemoryError or does what it does, and leaves a store that works.
 
     A call that raises may end by SystemError too: the interpreter does so if it has no memory for a traceback. ctypes makes an
-    ArgumentError of a MemoryError."""
+    ArgumentError of a MemoryError, and reads snapshots over the extension module too."""
     try:
         import _testcapi
     except ImportError:
         sys.exit("python.py: this Python has no module _testcapi")
-    others = {ctypes.ArgumentError} if kovshenul.BACKEND == "ctypes" else set()
     refused, wrong, tried = 0, set(), 0
     with Store(*OPENING) as store, Auditor(*OPENING) as auditor, store.view() as view:
         for number, call in enumerate([*calls_of(store, auditor, view), lambda: long_rows(store)]):
             usual = outcome_of(call)
-            right = {usual, MemoryError, *others} | ({SystemError, ctypes.ArgumentError} if usual else set())
+            right = {usual, MemoryError, ctypes.ArgumentError} | ({SystemError} if usual else set())
             outcomes = [refused_at(_testcapi, call, at) for at in range(200)]
             tried, refused = tried + len(outcomes), refused + outcomes.count(MemoryError)
             wrong |= {(number, outcome) for outcome in outcomes if outcome not in right}

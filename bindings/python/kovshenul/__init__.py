@@ -1,4 +1,4 @@
-"""Kovshenul for Python: an object store with take-grant access control, through its shared library.
+"""Kovshenul for Python: a reference monitor with take-grant rules, through its shared library.
 
     with Store([Cell(0), Cell(0)], [(0, 1, GRANT)], Limits(10, 8, 4)) as store:
         document = store.create(0, READ | WRITE, Sum(40))
@@ -13,7 +13,8 @@ Nothing happened then.
 one goes on from its Snapshot. `Store.resume` opens a store that goes on from the entries of another process, and `Store.reopen` one
 that goes on from a Snapshot. `opening_text`, the `str` of each entry and `end_text` are the text that the program tgaudit reads. `kovshenul.journal` has the types of what an entry
 says. `kovshenul.outlook` has the types of what `could` answers about the future. A View, which `view` opens, answers many such
-questions. The module `kovshenul.plain` is a model of the store in plain Python, to test a host against.
+questions. The module `kovshenul.plain` is a model of the store in plain Python, to test a host against. `kovshenul.database` keeps
+entries in a database of the host.
 
 Any thread may call, and so may a finalizer and a signal's handler. The module has one lock, so all calls come one after the
 other, also those on different stores. The library is the one that the variable KOVSHENUL_LIBRARY names. Otherwise it is the one
@@ -51,7 +52,7 @@ from ._refusals import (
     VerticesFull,
     WorkersFull,
 )
-from ._snapshot import Snapshot
+from ._snapshot import Snapshot, Vertex
 from ._store import Store
 from ._texts import end_text, opening_text
 from ._values import MOST_NUMBERS, Cell, Counts, Edge, Kind, Limits, Log, Max, Rights, Sum, Target, Value
@@ -109,6 +110,7 @@ __all__ = [
     "TAKE",
     "Target",
     "Value",
+    "Vertex",
     "VerticesFull",
     "View",
     "WRITE",

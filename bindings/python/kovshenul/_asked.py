@@ -1,7 +1,8 @@
 """What a call of the model in plain Python is asked for: numbers, values and edges. The store looks at them in the same order."""
 from __future__ import annotations
 
-from typing import Dict, Iterable, List, Tuple
+from dataclasses import replace
+from typing import Iterable, List, Tuple
 
 from ._library import BITS, number_in
 from ._refusals import BadEdge, BadLaw, BadLimits, BadRights, BadValues, BadWorkers, refusal
@@ -12,7 +13,6 @@ from .journal import Denied, Entry
 
 MOST_VERTICES = 2**48
 LAWS = {Cell: "cell", Sum: "sum", Max: "max"}
-LAW_OF_LETTER = {"c": "cell", "s": "sum", "m": "max", "l": "log"}
 SINGLE = [int(right) for right in Rights]
 
 # An edge: from whom, to whom, and the rights.
@@ -83,28 +83,16 @@ def opened(workers: Iterable[Value], edges: Iterable[Pair], limits: Tuple[int, i
     return Graph(values, pairs, max_vertices)
 
 
-def stored_by(text: str) -> Stored:
-    """What a vertex stores, by its text in a snapshot: `s42`, or `l2:7,8` for a log of at most two."""
-    law, (first, _, rest) = LAW_OF_LETTER[text[0]], text[1:].partition(":")
-    if law == "log":
-        return Stored(law, tuple(int(number) for number in rest.split(",") if number), int(first))
-    return Stored(law, (int(first),))
-
-
 def shown_by(snapshot: Snapshot, limits: Tuple[int, int, int]) -> Tuple[Graph, int]:
-    """The graph that a snapshot shows, and how many entries came before. Its text is that of a snapshot."""
+    """The graph that a snapshot shows, and how many entries came before."""
     max_vertices, _, _ = numbers_in(*limits)
-    lines: Dict[str, List[List[str]]] = {"made": [], "worker": [], "vertex": [], "edge": []}
-    for line in str(snapshot).splitlines()[1:-1]:
-        word, *rest = line.split(" ")
-        lines[word].append(rest)
-    ((made, limit, entries),) = lines["made"]
-    if max_vertices != int(limit):
+    if max_vertices != snapshot.limit:
         raise BadLimits
-    if not lines["worker"]:
+    subjects = [*snapshot.subjects()]
+    if not subjects:
         raise BadWorkers
-    values = {int(name): stored_by(text) for name, text in lines["vertex"]}
-    graph = Graph.shown([int(name) for (name,) in lines["worker"]], values, int(made), max_vertices)
-    for source, target, letters in lines["edge"]:
-        graph.add(int(source), int(target), Rights.of(letters))
-    return graph, int(entries)
+    values = {name: replace(stored_in(value), state=numbers) for name, value, numbers in snapshot.vertices()}
+    graph = Graph.shown(subjects, values, snapshot.made, max_vertices)
+    for source, target, rights in snapshot.edges():
+        graph.add(source, target, rights)
+    return graph, snapshot.entries

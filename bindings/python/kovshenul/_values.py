@@ -116,7 +116,7 @@ LETTERS = {Cell: "c", Sum: "s", Max: "m", Log: "l"}
 
 
 class Edge(NamedTuple):
-    """The rights of worker `source` over worker `target`, at the opening."""
+    """The rights of vertex `source` over vertex `target`, at the opening or in a snapshot. At the opening both are workers."""
 
     source: int
     target: int

@@ -11,7 +11,7 @@ It has the same calls, with the same arguments and answers. It raises the same e
 `_rules.py`, written so that they can be read. The store is proved, and the model isn't. The package's tests compare the two.
 
 It is plain Python. The library for C, which the package loads, is asked for texts and for nothing else: those of refusals, of entries,
-of an opening and of a snapshot. `reopen` reads a snapshot by itself. `_rules.py` runs without the package.
+of an opening and of a snapshot. `_rules.py` runs without the package.
 
 What it leaves out:
 
@@ -51,7 +51,7 @@ from ._refusals import (
     refusal,
 )
 from ._rules import Denial, Full, Graph
-from ._snapshot import Snapshot
+from ._snapshot import Snapshot, Vertex
 from ._texts import end_text, opening_text
 from ._values import MOST_NUMBERS, Cell, Counts, Edge, Kind, Limits, Log, Max, Rights, Sum, Target, Value
 from .journal import Create, Deed, Entry, Reply, Spawn

@@ -2,13 +2,17 @@
 import pickle
 import random
 import unittest
+from dataclasses import replace
+from pathlib import Path
 
 from back_ends import IS_CTYPES
 from kovshenul import (
+    APPEND,
     GRANT,
     INSPECT,
     READ,
     TAKE,
+    WRITE,
     Auditor,
     BadEntry,
     BadLimits,
@@ -17,6 +21,7 @@ from kovshenul import (
     BadWorkers,
     Cell,
     Denied,
+    Edge,
     Limits,
     Log,
     Max,
@@ -30,6 +35,7 @@ from kovshenul import (
     Store,
     Sum,
     Target,
+    Vertex,
     VerticesFull,
     WorkersFull,
     end_text,
@@ -310,6 +316,46 @@ class Resumed(unittest.TestCase):
             self.assertRaises(NotOpen, second.entries)
             self.assertRaises(NotOpen, second.go_on, 0, entries)
 
+    def test_what_is_refused(self):
+        """The rows of bindings/tests/refused.c."""
+        cells, edges, limits = [Cell(0)] * 2, [(0, 1, GRANT)], Limits(20, 8, 4)
+        with Store(cells, edges, limits) as store:
+            store.create(0, READ | WRITE, Sum(40))
+            store.write(0, 2, 2)
+            store.read(0, 2)
+            store.grant(0, 1, 2, READ)
+            store.read(1, 2)
+            self.assertRaises(Denied, store.write, 1, 2, 7)
+            store.list(0)
+            store.retire(1)
+            entries = [*store.journal()]
+        changed = [
+            ("the name of a vertex that was made", 0, 0, replace(entries[0], reply=journal.Name(3))),
+            ("the number of a write, by the read after it", 1, 2, replace(entries[1], deed=journal.Write(2, 3))),
+            ("the number that a read returned", 2, 2, replace(entries[2], reply=journal.Values((43,)))),
+            ("the rights of a grant, by the read after it", 3, 4, replace(entries[3], deed=journal.Grant(1, 2, WRITE))),
+            ("the worker that asked", 4, 4, replace(entries[4], worker=2)),
+            ("the rights that a denial says are missing", 5, 5, replace(entries[5], reply=replace(entries[5].reply, rights=READ))),
+            ("the rights that were listed", 6, 6, replace(entries[6], reply=journal.Edges((Target(1, GRANT), Target(2, READ))))),
+        ]
+        rows = [(what, place, edges, limits, [*entries[:at], entry, *entries[at + 1 :]]) for what, at, place, entry in changed]
+        rows += [
+            ("an entry left out", 3, edges, limits, entries[:3] + entries[4:]),
+            ("another edge", 3, [(0, 1, INSPECT)], limits, entries),
+            ("another limit", 0, edges, Limits(2, 8, 4), entries),
+        ]
+        for what, place, own, most, altered in rows:
+            with self.subTest(what), self.assertRaises(BadEntry) as refused:
+                Store.resume(cells, own, most, altered)
+            self.assertEqual(refused.exception.at, place, what)
+        with Store.resume(cells, edges, limits, entries[:3]) as store:
+            for place, part in ((5, entries[5:]), (0, entries[:3])):
+                with self.assertRaises(BadPlace) as refused:
+                    store.go_on(place, part)
+                self.assertEqual((refused.exception.at, store.entries()), (place, 3))
+            store.go_on(3, entries[3:])
+            self.assertEqual([*store.journal()], entries)
+
     def test_no_entries(self):
         denied = journal.Denied("read", "not distinct", (1, 2))
         wrong = [
@@ -408,6 +454,19 @@ class Texts(unittest.TestCase):
             self.assertRaises(OverflowError, end_text, count)
 
 
+TABLE = Path(__file__).resolve().parents[2] / "tests" / "snapshots.txt"
+
+
+def refused_at(text):
+    """The first line at fault, or 0 if it is the text of a snapshot."""
+    try:
+        Snapshot(text)
+    except BadValues as refused:
+        assert str(refused).startswith(f"line {refused.line}: ")
+        return refused.line
+    return 0
+
+
 class Snapshots(unittest.TestCase):
     """What an auditor has come to, from which another one goes on."""
 
@@ -461,6 +520,59 @@ class Snapshots(unittest.TestCase):
         for text in (None, b"kovshenul picture 1", 7):
             self.assertRaises(TypeError, Snapshot, text)
             self.assertRaises(TypeError, Auditor.reopen, text)
+
+    def test_what_is_refused(self):
+        """The table of bindings/tests/snapshots.txt, and the whole one of its texts without its last lines."""
+        table = TABLE.read_text("ascii").split("\n\n")[1:]
+        self.assertGreater(len(table), 30)
+        for what, text in (row.rstrip("\n").split("\n", 1) for row in table):
+            line = int(what.split(":")[0])
+            with self.subTest(what):
+                self.assertEqual(refused_at(text), line)
+            lines = [] if line else text.split("\n")
+            for count in range(1, len(lines)):
+                self.assertEqual(refused_at("\n".join(lines[:count])), count + 1)
+
+    def test_what_it_shows(self):
+        values, edges = [Cell(7), Log(2), Max(3)], [(2, 1, APPEND), (0, 1, READ | GRANT), (0, 2, WRITE)]
+        with Store(values, edges, Limits(20, 8, 4)) as store, Auditor(values, edges, Limits(20, 8, 4)) as auditor:
+            for number in (1, 8, 9):
+                store.append(2, 1, number)
+            made = store.create(0, READ | WRITE, Sum(2**64 - 1)), store.create(1, READ, Cell(0))
+            store.remove(1, made[1], READ)
+            store.retire(1)
+            auditor.feed(store)
+            snapshot = auditor.snapshot()
+        self.assertEqual((snapshot.made, snapshot.limit, snapshot.entries), (5, 20, 7))
+        self.assertEqual([*snapshot.subjects()], [0, 2])
+        shown = [Vertex(0, Cell(7), (7,)), Vertex(1, Log(2), (8, 9)), Vertex(2, Max(3), (3,)), Vertex(3, Sum(2**64 - 1), (2**64 - 1,))]
+        self.assertEqual([*snapshot.vertices()], shown)
+        rights = [(0, 1, READ | GRANT), (0, 2, WRITE), (0, 3, READ | WRITE), (2, 1, APPEND)]
+        self.assertEqual([*snapshot.edges()], [Edge(*edge) for edge in rights])
+        empty = Snapshot("kovshenul picture 1\nmade 3 20 8\nworker 1\nvertex 1 l64\npicture 1")
+        self.assertEqual(([*empty.vertices()], [*empty.edges()]), ([Vertex(1, Log(64), ())], []))
+
+    def test_more_names(self):
+        with opened() as first, Auditor(*opening()) as auditor:
+            told(first, 1, 50)
+            auditor.feed(first)
+            snapshot, limits = auditor.snapshot(), opening()[2]
+        raised = snapshot.with_names(snapshot.made + 3)
+        self.assertEqual((raised.made, raised.limit, raised.entries), (snapshot.made + 3, snapshot.limit, snapshot.entries))
+        shown = [*raised.vertices()], [*raised.edges()], [*raised.subjects()]
+        self.assertEqual(shown, ([*snapshot.vertices()], [*snapshot.edges()], [*snapshot.subjects()]))
+        self.assertEqual(snapshot.with_names(snapshot.made), snapshot)
+        with Store.reopen(raised, limits) as store, Store.reopen(snapshot, limits) as other:
+            names = [it.create(next(snapshot.subjects()), READ, Cell(0)) for it in (other, store)]
+        self.assertEqual(names, [snapshot.made, snapshot.made + 3])
+        full = snapshot.with_names(snapshot.limit)
+        with Store.reopen(full, limits) as store:
+            self.assertRaises(VerticesFull, store.create, next(full.subjects()), READ, Cell(0))
+        for made in (snapshot.made - 1, 0, snapshot.limit + 1):
+            self.assertRaises(BadLimits, snapshot.with_names, made)
+        for made in (-1, 2**64):
+            self.assertRaises(OverflowError, snapshot.with_names, made)
+        self.assertRaises(TypeError, snapshot.with_names, "9")
 
     def test_stopped(self):
         with opened() as store, Auditor(*opening()) as auditor:

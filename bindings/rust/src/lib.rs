@@ -1,4 +1,4 @@
-//! Kovshenul for Rust: an object store with take-grant access control, over the C library, with no crates beside it.
+//! Kovshenul for Rust: a reference monitor with take-grant rules, over the C library, with no crates beside it.
 //!
 //! ```
 //! use kovshenul::{Edge, Error, Limits, Rights, Store, Value};
@@ -41,7 +41,7 @@ pub use journal::{Deed, Entry, Journal, Reply};
 pub use marks::{Named, Silent};
 pub use resuming::Stopped;
 pub use rights::{NoRights, Rights};
-pub use snapshot::{NoSnapshot, Snapshot};
+pub use snapshot::{NoSnapshot, Snapshot, Vertex};
 pub use store::Store;
 pub use text::{end_text, opening_text};
 pub use value::{Counts, Edge, Hand, Kind, Limits, Target, Value};

@@ -16,12 +16,12 @@ pub enum Value {
     Log(u32),
 }
 
-/// The rights of worker `from` over worker `to`, at the opening.
+/// The rights of vertex `from` over vertex `to`, at the opening or in a snapshot. At the opening both are workers.
 #[derive(Clone, Copy, PartialEq, Eq, Hash, Debug)]
 pub struct Edge {
-    /// The worker that holds the rights.
+    /// The vertex that holds the rights.
     pub from: u64,
-    /// The worker over which they are held.
+    /// The vertex over which they are held.
     pub to: u64,
     /// The rights: one at least.
     pub rights: Rights,

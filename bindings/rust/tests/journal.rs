@@ -286,6 +286,104 @@ fn what_stops_a_resume() {
     assert_eq!(resumed(3, &entries).unwrap_err().why, Error::BadEntry);
 }
 
+// The entries of a store that is used, of which the rows below are altered.
+fn used() -> Vec<Entry> {
+    let (cells, edge) = ([Value::Cell(0); 2], [Edge { from: 0, to: 1, rights: Rights::GRANT }]);
+    let mut store = Store::open(&cells, &edge, &limits(20)).unwrap();
+    store.create(0, Rights::READ | Rights::WRITE, Value::Sum(40)).unwrap();
+    store.write(0, 2, 2).unwrap();
+    store.read(0, 2).unwrap();
+    store.grant(0, 1, 2, Rights::READ).unwrap();
+    store.read(1, 2).unwrap();
+    store.write(1, 2, 7).unwrap_err();
+    store.list(0).unwrap();
+    store.retire(1).unwrap();
+    store.journal().collect()
+}
+
+// The place at which a store of this opening finds a bad entry. Nothing is left of the store then.
+fn bad_at(rights: Rights, max_vertices: u64, entries: &[Entry]) -> u64 {
+    let (cells, edge) = ([Value::Cell(0); 2], [Edge { from: 0, to: 1, rights }]);
+    let stopped = Store::resume(&cells, &edge, &limits(max_vertices), entries).unwrap_err();
+    assert!(stopped.why == Error::BadEntry && stopped.store.is_none());
+    stopped.at
+}
+
+// The rows of bindings/tests/refused.c.
+#[test]
+fn which_entries_are_refused() {
+    let entries = used();
+    let target = |to, rights| Target { to, rights };
+    let missing = Denial::Missing { rule: Rule::Write, from: 1, to: 2, rights: Rights::READ };
+    let grant = Deed::Grant { via: 1, target: 2, rights: Rights::WRITE };
+    let listed = vec![target(1, Rights::GRANT), target(2, Rights::READ)];
+    let with = |at: usize, deed: Option<Deed>, reply: Option<Reply>| {
+        let mut altered = entries.clone();
+        altered[at].deed = deed.unwrap_or_else(|| altered[at].deed.clone());
+        altered[at].reply = reply.unwrap_or_else(|| altered[at].reply.clone());
+        altered
+    };
+    let mut by_other = entries.clone();
+    by_other[4].worker = 2;
+    let changed = [
+        ("the name of a vertex that was made", 0, with(0, None, Some(Reply::Name(3)))),
+        ("the number of a write, by the read after it", 2, with(1, Some(Deed::Write { target: 2, value: 3 }), None)),
+        ("the number that a read returned", 2, with(2, None, Some(Reply::Values(vec![43])))),
+        ("the rights of a grant, by the read after it", 4, with(3, Some(grant), None)),
+        ("the worker that asked", 4, by_other),
+        ("the rights that a denial says are missing", 5, with(5, None, Some(Reply::Denied(missing)))),
+        ("the rights that were listed", 6, with(6, None, Some(Reply::Edges(listed)))),
+        ("an entry left out", 3, [&entries[..3], &entries[4..]].concat()),
+    ];
+    for (what, place, altered) in changed {
+        assert_eq!(bad_at(Rights::GRANT, 20, &altered), place, "{what}");
+    }
+    assert_eq!(bad_at(Rights::INSPECT, 20, &entries), 3, "another edge");
+    assert_eq!(bad_at(Rights::GRANT, 2, &entries), 0, "another limit");
+}
+
+#[test]
+fn parts_that_do_not_follow_one_another() {
+    let entries = used();
+    let (cells, edge) = ([Value::Cell(0); 2], [Edge { from: 0, to: 1, rights: Rights::GRANT }]);
+    let mut store = Store::resume(&cells, &edge, &limits(20), &entries[..3]).unwrap();
+    for (place, part) in [(5, &entries[5..]), (0, &entries[..3])] {
+        let stopped = store.go_on(place, part).unwrap_err();
+        assert_eq!((stopped.at, stopped.why), (place, Error::BadPlace));
+        store = stopped.store.unwrap();
+        assert_eq!(store.entries(), Ok(3));
+    }
+    let store = store.go_on(3, &entries[3..]).unwrap();
+    assert!(store.journal().eq(entries));
+}
+
+// The table of bindings/tests/snapshots.txt, and the whole one of its texts without its last lines.
+#[test]
+fn which_texts_are_no_snapshots() {
+    let path = concat!(env!("CARGO_MANIFEST_DIR"), "/../tests/snapshots.txt");
+    let table = std::fs::read_to_string(path).unwrap();
+    let refused_at = |text: &str| match text.parse::<Snapshot>() {
+        Ok(snapshot) => {
+            assert_eq!(snapshot.to_string(), text);
+            0
+        }
+        Err(NoSnapshot::Line(line)) => line as usize,
+        Err(other) => panic!("{other}"),
+    };
+    let mut count = 0;
+    for row in table.split("\n\n").skip(1) {
+        let (what, text) = row.trim_end().split_once('\n').unwrap();
+        let line = what.split_once(':').unwrap().0.parse().unwrap();
+        assert_eq!(refused_at(text), line, "{what}");
+        let lines: Vec<&str> = text.split('\n').filter(|_| line == 0).collect();
+        for upto in 1..lines.len() {
+            assert_eq!(refused_at(&lines[..upto].join("\n")), upto + 1, "{what}");
+        }
+        count += 1;
+    }
+    assert!(count > 30);
+}
+
 #[test]
 fn entries_have_lines() {
     let entry = |worker, deed, reply| Entry { worker, deed, reply };
@@ -356,6 +454,58 @@ fn an_auditor_goes_on_from_a_snapshot() {
     }
     assert_eq!("".parse::<Snapshot>(), Err(NoSnapshot::Line(1)));
     assert!(NoSnapshot::Line(3).to_string().starts_with("line 3: "));
+}
+
+#[test]
+fn what_a_snapshot_shows() {
+    let values = [Value::Cell(7), Value::Log(2), Value::Max(3)];
+    let edge = |from, to, rights| Edge { from, to, rights };
+    let edges = [edge(2, 1, Rights::APPEND), edge(0, 1, Rights::READ | Rights::GRANT)];
+    let mut store = Store::open(&values, &edges, &limits(20)).unwrap();
+    let mut auditor = Auditor::open(&values, &edges, &limits(20)).unwrap();
+    for number in [1, 8, 9] {
+        store.append(2, 1, number).unwrap();
+    }
+    store.create(0, Rights::WRITE, Value::Sum(u64::MAX)).unwrap();
+    let lost = store.create(1, Rights::READ, Value::Cell(0)).unwrap();
+    store.remove(1, lost, Rights::READ).unwrap();
+    store.retire(1).unwrap();
+    auditor.feed(&store).unwrap();
+    let snapshot = auditor.snapshot().unwrap();
+    assert_eq!((snapshot.made(), snapshot.limit(), snapshot.entries()), (5, 20, 7));
+    assert_eq!(snapshot.subjects().collect::<Vec<u64>>(), [0, 2]);
+    let shown: Vec<(u64, Value, Vec<u64>)> = snapshot.vertices().map(|it| (it.name, it.value, it.numbers)).collect();
+    let wanted = [
+        (0, Value::Cell(7), vec![7]),
+        (1, Value::Log(2), vec![8, 9]),
+        (2, Value::Max(3), vec![3]),
+        (3, Value::Sum(u64::MAX), vec![u64::MAX]),
+    ];
+    assert_eq!(shown, wanted);
+    let wanted = [edges[1], edge(0, 3, Rights::WRITE), edges[0]];
+    assert_eq!(snapshot.edges().collect::<Vec<Edge>>(), wanted);
+    let empty: Snapshot = "kovshenul picture 1\nmade 3 20 8\nworker 1\nvertex 1 l64\npicture 1".parse().unwrap();
+    assert!(empty.vertices().all(|it| it.numbers.is_empty()) && empty.edges().count() == 0);
+}
+
+#[test]
+fn a_snapshot_with_more_names() {
+    let mut auditor = auditor(20);
+    let mut first = opened(20);
+    first.create(0, Rights::READ, Value::Cell(0)).unwrap();
+    auditor.feed(&first).unwrap();
+    let snapshot = auditor.snapshot().unwrap();
+    let raised = snapshot.with_names(9).unwrap();
+    assert_eq!((raised.made(), raised.limit(), raised.entries()), (9, 20, 1));
+    assert!(raised.vertices().eq(snapshot.vertices()) && raised.edges().eq(snapshot.edges()));
+    assert_eq!(snapshot.with_names(3), Ok(snapshot.clone()));
+    let mut store = Store::reopen(&raised, &limits(20)).unwrap();
+    assert_eq!(store.create(0, Rights::READ, Value::Cell(0)), Ok(9));
+    let mut full = Store::reopen(&snapshot.with_names(20).unwrap(), &limits(20)).unwrap();
+    assert_eq!(full.create(0, Rights::READ, Value::Cell(0)), Err(Error::VerticesFull));
+    for made in [0, 2, 21, u64::MAX] {
+        assert_eq!(snapshot.with_names(made), Err(Error::BadLimits));
+    }
 }
 
 #[test]

@@ -56,10 +56,10 @@ fn word_to(number: u64, rights: Rights) -> u64 {
 
 // The references that the cell with a number has in a chain, and 0 where it has none.
 fn words_behind(number: u64) -> [u64; 2] {
-    let word = |at: u64| -> u64 { word_to(at, Rights::of(Right::W)) };
+    let write = Rights::of(Right::W);
     match number {
-        0 => [word(129), word(130)],
-        128..=130 => [word(number + 1), 0],
+        0 => [word_to(129, write), word_to(130, write)],
+        128..=130 => [word_to(number + 1, write), 0],
         _ => [0, 0],
     }
 }
@@ -69,7 +69,7 @@ fn words_at(content: Content, number: u64) -> [u64; WORDS]
     requires { number < 192 }
 {
     let reference = word_to(number / 4 * 20 % CELLS, Rights::of(Right::W));
-    let link = |at: u64| -> u64 { word_to(at, Rights::empty()) };
+    let none = Rights::empty();
     match content {
         Content::Alone => [OBJECT_TAG, number, number, 0, 0, 0, 0, 0],
         Content::Chain => {
@@ -85,7 +85,7 @@ fn words_at(content: Content, number: u64) -> [u64; WORDS]
                 reference,
                 0,
                 0,
-                link(number + 2),
+                word_to(number + 2, none),
             ],
             1 => [OBJECT_TAG, number, number, 0, 0, reference, 0, 0],
             2 => [
@@ -96,7 +96,7 @@ fn words_at(content: Content, number: u64) -> [u64; WORDS]
                 0,
                 0,
                 reference,
-                link(number + 1),
+                word_to(number + 1, none),
             ],
             _ => [CHUNK_TAG, 0, 0, 0, 0, 0, 0, 0],
         },
@@ -299,5 +299,5 @@ fn collections_succeed_where_there_is_room(rt: HostRuntime) {
     let remembered = [Root::Remembered(place_at(22))];
     let full = refusals_of_linked(&rt, rt.alloc(), Kind::Full, &[]);
     let nursery = refusals_of_linked(&rt, rt.alloc(), Kind::Nursery, &remembered);
-    assert_eq!(rt; [full, nursery], [Some([None; 3]); 2]);
+    assert!(rt; [full, nursery] == [Some([None; 3]); 2]);
 }

@@ -83,7 +83,7 @@ fn word_vectors(rt: HostRuntime) {
         reads_as(0x0000_0307_ffff_ffff, last),
         reads_as(0x0000_0200_0000_0000, first),
     ];
-    assert_eq!(rt; read, [true; 4]);
+    assert!(rt; read == [true; 4]);
 }
 
 #[test]
@@ -98,7 +98,7 @@ fn words_off_the_layout(rt: HostRuntime) {
         unpack(0x0000_0030_7fff_ffff),
         unpack(0x0000_0020_0000_0000),
     ];
-    assert_eq!(rt; read, [None; 6]);
+    assert!(rt; read == [None; 6]);
 }
 
 // What is answered for another cell of nursery 0 once it is full, and how many blocks there are then.
@@ -111,7 +111,7 @@ fn next_of_full(alloc: Global) -> Option<(Option<Result<Place, RoomFault>>, u64)
 #[test]
 fn nurseries_fill_and_refuse(rt: HostRuntime) {
     let wanted = (Some(Err(RoomFault::HeapFull)), 2);
-    assert_eq!(rt; next_of_full(rt.alloc()), Some(wanted));
+    assert!(rt; next_of_full(rt.alloc()) == Some(wanted));
 }
 
 // Whether the place has the flat number 64, and that the place.
@@ -135,10 +135,7 @@ fn flat_numbers(rt: HostRuntime) {
         block: 0,
         cell: 0,
     };
-    assert_eq!(rt;
-        is_number_64_of_filled(rt.alloc(), place),
-        Some((true, true))
-    );
+    assert!(rt; is_number_64_of_filled(rt.alloc(), place) == Some((true, true)));
 }
 
 // A space with one block.
@@ -177,5 +174,5 @@ fn has_one_once_adopted(alloc: Global) -> Option<bool> {
 
 #[test]
 fn full_adoption(rt: HostRuntime) {
-    assert_eq!(rt; has_one_once_adopted(rt.alloc()), Some(true));
+    assert!(rt; has_one_once_adopted(rt.alloc()) == Some(true));
 }

@@ -7,19 +7,15 @@
 #![tactic(auto)]
 
 #[cfg(test)]
-mod alike;
+mod by_law;
 #[cfg(test)]
 mod could;
-#[cfg(test)]
-mod hands;
 #[cfg(test)]
 mod helpers;
 #[cfg(test)]
 mod meet;
 #[cfg(test)]
 mod opened;
-#[cfg(test)]
-mod parts;
 #[cfg(test)]
 mod payloads;
 #[cfg(test)]
@@ -34,3 +30,5 @@ mod sessions;
 mod shown;
 #[cfg(test)]
 mod stores;
+#[cfg(test)]
+mod tagged;

@@ -47,9 +47,11 @@ impl Meet {
     }
 
     fn have_all_come(&self) -> bool {
-        self.passes
-            .iter()
-            .all(|passes| passes.load(Ordering::SeqCst) > 0)
+        let mut have_come = true;
+        for passes in &self.passes {
+            have_come &= passes.load(Ordering::SeqCst) > 0;
+        }
+        have_come
     }
 
     // The thread with a number passes.

@@ -46,5 +46,5 @@ fn boxes_of_the_four_laws(rt: HostRuntime) {
         Some((Law::Max, 3)),
         Some((Law::Log(2), 2)),
     ];
-    assert_eq!(rt; seen, wanted);
+    assert!(rt; seen == wanted);
 }

@@ -55,7 +55,7 @@ fn length_written(alloc: Global, script: &[u8]) -> Option<(usize, Result<(), Scr
 #[test]
 fn long_replies(rt: HostRuntime) -> Result<(), Fail> {
     let lines = many_lines(rt.alloc())?;
-    assert_eq!(rt; length_written(rt.alloc(), &lines), Some((76_000, Ok(()))));
+    assert!(rt; length_written(rt.alloc(), &lines) == Some((76_000, Ok(()))));
     Ok(())
 }
 
@@ -128,5 +128,5 @@ fn missed_within<R: Threads + Wait + Sync>(
 fn workers_at_one_gate(rt: HostRuntime) {
     let two = missed_within(&rt, rt.alloc(), b"0 list\n1 list\n", MANY_TURNS);
     let one = missed_within(&rt, rt.alloc(), b"0 list\n0 list\n", 1000);
-    assert_eq!(rt; [two, one], [Some((Ok(()), false)), Some((Ok(()), true))]);
+    assert!(rt; [two, one] == [Some((Ok(()), false)), Some((Ok(()), true))]);
 }

@@ -3,6 +3,7 @@
 
 mod hands;
 mod opened;
+mod rounds;
 mod shares;
 mod shown;
 mod story;

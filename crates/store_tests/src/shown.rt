@@ -3,7 +3,7 @@ use crate::opened::cells;
 use std::alloc::{AllocError, Global};
 use std::fmt::Display;
 use tg_helpers::HelpersFault;
-use tg_journal::AuditFault;
+use tg_journal::{AuditFault, PartFault};
 use tg_model::{
     Cause, Denial, Edge, EdgeList, Graph, ModelFault, Opening, OpeningFault, Reply, Rule,
 };
@@ -52,7 +52,7 @@ fn missing() -> Denial {
 #[test]
 fn replies_and_denials(rt: HostRuntime) {
     let denied = is_shown(rt.alloc(), AsText(&missing()), "denied write 1->2 w");
-    assert_eq!(rt; [is_listing_shown(rt.alloc()), denied], [true; 2]);
+    assert!(rt; [is_listing_shown(rt.alloc()), denied] == [true; 2]);
 }
 
 // Whether a label with the right to write alone is shown so.
@@ -83,7 +83,38 @@ fn are_faults_shown(alloc: Global) -> [bool; 3] {
 
 #[test]
 fn faults_that_no_row_meets(rt: HostRuntime) {
-    assert_eq!(rt; are_faults_shown(rt.alloc()), [true; 3]);
+    assert!(rt; are_faults_shown(rt.alloc()) == [true; 3]);
+}
+
+// Why a part is refused, and why an audit stops in it.
+fn are_faults_of_parts_shown(alloc: Global) -> [bool; 3] {
+    let bad_place = PartFault::BadPlace {
+        due: 1,
+        start: 2,
+        end: 3,
+    };
+    [
+        is_shown(
+            alloc,
+            bad_place,
+            "the part has entries 2..3, and entry 1 comes next: feed the part that has it",
+        ),
+        is_shown(
+            alloc,
+            PartFault::BadEntry { at: 4 },
+            "entry 4 is not legal: the journal was altered, or is of another opening",
+        ),
+        is_shown(
+            alloc,
+            PartFault::OutOfMemory { at: 5 },
+            "out of memory at entry 5: free memory, and feed the same part again",
+        ),
+    ]
+}
+
+#[test]
+fn faults_of_parts(rt: HostRuntime) {
+    assert!(rt; are_faults_of_parts_shown(rt.alloc()) == [true; 3]);
 }
 
 // Why a heap has no room, why helpers are refused, and why a plain graph serves nobody.
@@ -101,7 +132,7 @@ fn are_refusals_shown(alloc: Global) -> [bool; 7] {
 
 #[test]
 fn refusals_that_no_program_shows(rt: HostRuntime) {
-    assert_eq!(rt; are_refusals_shown(rt.alloc()), [true; 7]);
+    assert!(rt; are_refusals_shown(rt.alloc()) == [true; 7]);
 }
 
 // Why a store is not opened, and why its opening isn't made.
@@ -156,8 +187,8 @@ fn are_calls_refused(alloc: Global) -> [bool; 11] {
 
 #[test]
 fn refusals_of_a_store(rt: HostRuntime) {
-    assert_eq!(rt; are_openings_refused(rt.alloc()), [true; 7]);
-    assert_eq!(rt; are_calls_refused(rt.alloc()), [true; 11]);
+    assert!(rt; are_openings_refused(rt.alloc()) == [true; 7]);
+    assert!(rt; are_calls_refused(rt.alloc()) == [true; 11]);
 }
 
 // The plain graph of two workers with cells, of whom one may read the other.
@@ -185,5 +216,5 @@ fn edges_shown(alloc: Global) -> Option<[usize; 2]> {
 
 #[test]
 fn each_edge_of_a_picture_stands_once(rt: HostRuntime) {
-    assert_eq!(rt; edges_shown(rt.alloc()), Some([1, 2]));
+    assert!(rt; edges_shown(rt.alloc()) == Some([1, 2]));
 }

@@ -1,57 +1,18 @@
-//! A store with payloads of its user's own. It shows what the store lends of them, and why it is full.
+//! A store with payloads of its user's own. It shows what the store lends of them, and why it is full. The edges to a
+//! vertex are listed.
 
 use crate::opened;
-use std::alloc::{AllocError, Global};
-use tg_model::{Command, Law};
-use tg_payload::{CellPayload, Draft, Payload};
-use tg_rights::Label;
+use crate::tagged::{Tagged, draft, drafts};
+use std::alloc::Global;
+use tg_model::{Command, Edge};
+use tg_payload::Payload;
+use tg_rights::{Label, Right, Rights};
 use tg_store::{CreateFault, Kind, Limits, RoomFault, Store};
 
-// A cell with a tag beside it, which no command can read.
-#[derive(Drop)]
-struct Tagged {
-    cell: CellPayload,
-    tag: u64,
-}
-
-impl Payload for Tagged {
-    ghost value = { λ p. ⟦<CellPayload as Payload>⟧.value p.cell };
-
-    fn law(&self) -> Law {
-        self.cell.law()
-    }
-
-    fn len(&self) -> usize {
-        self.cell.len()
-    }
-
-    fn at(&self, i: usize) -> u64 {
-        self.cell.at(i)
-    }
-
-    fn write(&mut self, number: u64) -> Result<(), AllocError> {
-        self.cell.write(number)
-    }
-}
-
-fn draft(alloc: Global, tag: u64) -> Option<Draft<Tagged>> {
-    let cell = CellPayload::new(0);
-    Draft::new(alloc, Tagged { cell, tag }).ok()
-}
-
-// The drafts of two workers.
-fn two_drafts(alloc: Global) -> Option<Vec<Draft<Tagged>>> {
-    let mut drafts = Vec::new(alloc);
-    for tag in 10..12 {
-        drafts.push(draft(alloc, tag)?).ok()?;
-    }
-    Some(drafts)
-}
-
-// A store with these two, in whose heap a space has at most one block.
+// A store of two workers, in whose heap a space has at most one block.
 fn open(alloc: Global) -> Option<Store<Tagged>> {
     let limits = Limits::new(4, 1).ok()?;
-    opened::open(alloc, two_drafts(alloc)?, limits, 100)
+    opened::open(alloc, drafts(alloc, 10, 2)?, limits, 100)
 }
 
 // Lets worker 0 make a vertex with the tag 12. Why it is refused, where it is.
@@ -91,7 +52,7 @@ fn seen_of_lent(alloc: Global) -> Option<(bool, [u64; 2])> {
 
 #[test]
 fn lent_to_who_may_read(rt: HostRuntime) {
-    assert_eq!(rt; seen_of_lent(rt.alloc()), Some((true, [17, 0])));
+    assert!(rt; seen_of_lent(rt.alloc()) == Some((true, [17, 0])));
 }
 
 // Makes vertices until one is refused. Why it is.
@@ -119,8 +80,46 @@ fn seen_of_full(alloc: Global) -> Option<(Option<CreateFault>, [Option<RoomFault
 #[test]
 fn one_block_a_space(rt: HostRuntime) {
     let full = Some(RoomFault::HeapFull);
-    assert_eq!(rt;
-        seen_of_full(rt.alloc()),
-        Some((Some(CreateFault::HeapFull), [full, full]))
-    );
+    assert!(rt; seen_of_full(rt.alloc()) == Some((Some(CreateFault::HeapFull), [full, full])));
+}
+
+// A store of three workers, of which worker 1 may read worker 2.
+fn open_with_edge(alloc: Global) -> Option<Store<Tagged>> {
+    let limits = Limits::new(8, 8).ok()?;
+    let drafts = drafts(alloc, 0, 3)?;
+    let edge = Edge {
+        from: 1,
+        to: 2,
+        label: Label::read_text(b"r")?,
+    };
+    let edges = vec![in alloc; edge].ok()?;
+    let opening = opened::opening_with(alloc, &drafts, edges, 10)?;
+    Store::open(alloc, opening, limits, drafts).ok()
+}
+
+// How many edges lead to a vertex, and the first of them.
+fn edges_to(
+    alloc: Global,
+    store: &Store<Tagged>,
+    name: u64,
+) -> Option<(usize, Option<(u64, Label)>)> {
+    let edges = store.edges_to(alloc, name).ok()?;
+    Some((edges.len(), edges.first().copied()))
+}
+
+// The edges to worker 2, and those to a name that was never made.
+fn seen_of_edges(alloc: Global) -> Option<[Option<(usize, Option<(u64, Label)>)>; 2]> {
+    let store = open_with_edge(alloc)?;
+    let seen = [edges_to(alloc, &store, 2), edges_to(alloc, &store, 9)];
+    store.let_go();
+    Some(seen)
+}
+
+#[test]
+fn edges_to_a_vertex_are_listed(rt: HostRuntime) {
+    let wanted = [
+        Some((1, Some((1, Label::new(Rights::of(Right::R)).unwrap())))),
+        Some((0, None)),
+    ];
+    assert!(rt; seen_of_edges(rt.alloc()) == Some(wanted));
 }

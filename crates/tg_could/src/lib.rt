@@ -6,12 +6,14 @@
 //! their limit. It also has the names of the silent subjects, who take no turns. A host names whom it trusts, itself
 //! first. All other active subjects act, and so does every subject that is spawned later.
 //!
-//! There are four answers:
+//! [`could_hold`] has four answers. [`could_hold_reached`] adds `Unreached`, and a [`View`] answers `Perhaps` where it
+//! doesn't answer `Never`:
 //!
 //! - `Never`. No list of turns of those who act gives x the right over y, whatever they create or give up, and whoever
 //!   of them retires. A [`Separation`] comes with the answer. [`Separation::parts`] checks it in one pass over the
 //!   edges, so a host may keep it and check it again after changes.
-//! - `Could`. The turns in the answer give x the right. [`lead_there`] replays turns of any subjects.
+//! - `Could`. The turns in the answer give x the right. There are none if x holds it already. [`lead_there`] replays
+//!   turns of any subjects.
 //! - `WantsNames`. The turns in the answer give x the right if so many more vertices may be made than are left.
 //! - `Open`. Nothing is known, because the question names a vertex far ahead of those made. Tests show that only such a
 //!   name leads to this answer. If there were another, its meaning would be that turns exist, and that they are not

@@ -7,13 +7,13 @@
 //!     0 write 2 5 = ok #c9d42721          and another one
 //! ```
 //!
-//! A line has a text, a mark and a sum. The sum covers the sum of the line before, so a line that is lost, moved or
-//! there twice is noticed. The mark is `@` at the first line of a batch, and else `#`. After the last line the file
+//! A line has a text, a sign and a sum. The sum covers the sum of the line before, so a line that is lost, moved or
+//! there twice is noticed. The sign is `@` at the first line of a batch, and else `#`. After the last line the file
 //! has zeros.
 //!
 //! `history_of` in `specs/Lines` says what the bytes of a file say. A file says the texts of its lines, up to the
-//! first that isn't whole, without the marks. A *mark* is a text as `entries 12`, which says how many entries came
-//! before it.
+//! first that isn't whole, without the *marks* among them. A mark is a text as `entries 12`, which says how many
+//! entries came before it.
 //!
 //! A batch is written over zeros that are on the disk, and then synced ([`LineFile::put`]). A crash in between leaves
 //! of each byte the zero or the new one. No line has a zero. Therefore what is read then is what the file said before
@@ -33,8 +33,9 @@
 //! | [`LineFile::put`], [`LineFile::put_all`] | put batches into the file. At `Ok` each crash leaves their lines |
 //! | [`LineFile::close`] | ends a run, so that the next opening reports it as closed |
 //!
-//! After an error of `put` or `close` the program drops the file and opens it anew. Two things are still missing. They
-//! are files over a disk that may tear any byte, and the calls that reach a real file.
+//! After an error of `put` or `close` the program drops the file and opens it anew. Two things are still missing. The
+//! first is files over a disk whose torn write may leave any bytes, and not only old or new ones. The second is the
+//! calls that reach a real file.
 #![tactic(auto)]
 
 mod batch;

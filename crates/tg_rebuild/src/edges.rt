@@ -6,7 +6,7 @@ ghost use Rattle.tg_graph.specs.Heap.{IsActive, KeepsPlaces, content_of};
 ghost use Rattle.tg_rebuild.specs.Inner.Bare.{IsBare};
 ghost use Rattle.tg_rebuild.specs.Inner.Lines.{ArePlaced};
 
-use crate::lines::line_shown;
+use crate::lines::line_from;
 use tg_graph::Heap;
 use tg_payload::Payload;
 use tg_snapshot::Snapshot;
@@ -29,10 +29,12 @@ pub(crate) fn add_edges<P: Payload>(
 {
     let vertices = snapshot.vertices();
     let edges = snapshot.picture().edges();
+    let mut from = 0;
+    let mut to = 0;
     for edge in edges {
-        let from = places[line_shown(vertices, edge.from)];
-        let to = places[line_shown(vertices, edge.to)];
-        heap.add_edge(holder, from, to, edge.label)?;
+        from = line_from(vertices, from, edge.from);
+        to = line_from(vertices, to, edge.to);
+        heap.add_edge(holder, places[from], places[to], edge.label)?;
     }
     Ok(())
 }

@@ -9,8 +9,6 @@
 //!
 //! [`find_receiver`] makes the checks of a grant that follows a take of the same rights, before anything is taken.
 //!
-//! [`find_receiver`] makes the checks of a grant that follows a take of the same rights, before anything is taken.
-//!
 //! [`readable`] lends what a vertex stores to a worker that may read it.
 //!
 //! All of them start at the worker's own vertex and follow edges. They never look for a name in any other way:

@@ -21,8 +21,8 @@
 //!
 //! **The law.** A create or a spawn that is paid for never meets the limit of vertices (`never_full` of
 //! [`Client::create`], [`Client::spawn`]). This holds for everything that anybody did in between. All clients together
-//! make at most as many entries as the first purse had (`within` of [`MeteredStore::into_locked`]). A call changes its
-//! own purse alone.
+//! make at most as many entries as the first purse had (`within` of [`MeteredStore::into_locked`]). No clause says that
+//! a call leaves the purses of others alone. By its type it is handed its own purse alone.
 //!
 //! **Who may do what.** A client reaches the store by its own calls. The store's lock, its locked value and the till
 //! are private to this crate. The one [`Keeper`](tg_shared::Keeper) takes the journal and ends workers, free of charge.

@@ -22,7 +22,8 @@
 //! The heap has the cells and payloads of all vertices that can be reached, and maybe of some that can't. It agrees
 //! with the graph, and that is the promise of every store (`IsFaithful`, which [`Store::journal`] ensures). The journal
 //! is a legal history of the opening, and the heap represents the graph after it. [`Store::collect`] changes the heap
-//! alone. Afterwards the heap has exactly what can be reached, and the payloads of all other vertices were dropped.
+//! alone. After a full collection the heap has exactly what can be reached, and the payloads of all other vertices were
+//! dropped. A nursery collection may keep some of the others.
 //!
 //! A refused call leaves the store as it was, and hands back its arguments. Two refusals have an entry. A create or a
 //! spawn is refused so if there are too many vertices, and a spawn if there are too many subjects. A call makes room

@@ -1,8 +1,7 @@
 """Which mutants are due: those whose verdict rests on files that have changed since it was as expected.
 
 What a verdict rests on is one sum. The sums of the verdicts that were as expected are kept beside the toolchain, on
-this machine alone, as `rt ci` keeps what it proved. Nothing is kept in the tree. So all mutants are due on a new
-machine."""
+this machine alone. Nothing is kept in the tree. So all mutants are due on a new machine."""
 import hashlib
 from collections.abc import Iterable
 from functools import lru_cache

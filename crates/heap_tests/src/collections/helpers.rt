@@ -79,9 +79,11 @@ impl HelpersMeet {
     }
 
     fn have_all_come(&self) -> bool {
-        self.passes
-            .iter()
-            .all(|passes| passes.load(Ordering::SeqCst) > 0)
+        let mut have_come = true;
+        for passes in &self.passes {
+            have_come &= passes.load(Ordering::SeqCst) > 0;
+        }
+        have_come
     }
 
     fn is_missed(&self) -> bool {
@@ -123,12 +125,7 @@ fn give_way() {
 
 // What helpers who met at a gate left: how often they passed it, whether one missed another, and why they were refused,
 // where they were.
-#[derive(Clone, Copy, PartialEq, Eq, Debug)]
-struct Met {
-    passes: u64,
-    is_missed: bool,
-    refusal: Option<HelpersFault>,
-}
+type Met = (u64, bool, Option<HelpersFault>);
 
 // A full collection of the heap by so many helpers who meet.
 fn met_on<R: Threads + Wait + Sync>(
@@ -141,11 +138,7 @@ fn met_on<R: Threads + Wait + Sync>(
 {
     let gate = HelpersMeet::of(alloc, helpers)?;
     let refusal = refusal(rt, alloc, heap, helpers, &gate)?;
-    Some(Met {
-        passes: gate.passes(),
-        is_missed: gate.is_missed(),
-        refusal,
-    })
+    Some((gate.passes(), gate.is_missed(), refusal))
 }
 
 // What helpers who meet leave of all linked cells, by one, two, three and eight.
@@ -165,11 +158,7 @@ fn met_on_linked<R: Threads + Wait + Sync>(rt: &R, alloc: Global) -> [Option<Met
 
 // All helpers met, passed the gate so often, and were served.
 fn served_with(passes: u64) -> Option<Met> {
-    Some(Met {
-        passes,
-        is_missed: false,
-        refusal: None,
-    })
+    Some((passes, false, None))
 }
 
 // Each object is named by several, which the helpers copy side by side. The gate is passed for each of twelve chunks of
@@ -182,7 +171,7 @@ fn helpers_at_one_gate(rt: HostRuntime) {
         served_with(15),
         served_with(20),
     ];
-    assert_eq!(rt; met_on_linked(&rt, rt.alloc()), wanted);
+    assert!(rt; met_on_linked(&rt, rt.alloc()) == wanted);
 }
 
 // Whether two helpers are refused in a heap that needs a block for each helper and may have one, if their passes are
@@ -193,8 +182,8 @@ fn is_one_refused<R: Threads + Wait + Sync>(rt: &R, alloc: Global) -> Option<boo
         space_blocks: 1,
         rows: 64,
     };
-    let met = met_on(rt, alloc, heap, 2)?;
-    match (met.refusal, met.passes) {
+    let (passes, _, refusal) = met_on(rt, alloc, heap, 2)?;
+    match (refusal, passes) {
         (Some(HelpersFault::HeapFull), 9) => Some(true),
         (None, 10) => Some(false),
         _ => None,
@@ -215,7 +204,7 @@ fn is_one_of_twenty_refused<R: Threads + Wait + Sync>(rt: &R, alloc: Global) -> 
 // chunk, neither is refused.
 #[test]
 fn a_refused_helper_stops_no_other(rt: HostRuntime) {
-    assert_eq!(rt; is_one_of_twenty_refused(&rt, rt.alloc()), Some(true));
+    assert!(rt; is_one_of_twenty_refused(&rt, rt.alloc()) == Some(true));
 }
 
 // Why a collection by so many helpers is refused where all cells live, and Old may have a block less than they need.
@@ -240,5 +229,5 @@ fn a_full_heap_is_refused(rt: HostRuntime) {
         refusal_of_full(&rt, rt.alloc(), 1),
         refusal_of_full(&rt, rt.alloc(), 4),
     ];
-    assert_eq!(rt; refusals, [Some(Some(HelpersFault::HeapFull)); 2]);
+    assert!(rt; refusals == [Some(Some(HelpersFault::HeapFull)); 2]);
 }

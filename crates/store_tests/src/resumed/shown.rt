@@ -1,8 +1,9 @@
 //! What is written of a part that wasn't resumed to its end.
-use super::opened::{let_go, open, resumed};
+use super::let_go;
+use crate::by_law::open;
 use std::alloc::Global;
 use tg_payload::LawPayload;
-use tg_resume::{Part, ResumeStopped};
+use tg_resume::{ByLaw, Part, ResumeStopped, resume};
 use tg_store::RoomFault;
 
 // Whether it is shown with this text.
@@ -28,7 +29,7 @@ fn is_place_shown(alloc: Global) -> Option<bool> {
     };
     let wanted =
         "the part begins at entry 1, and entry 0 comes next: resume from the part that begins there";
-    match resumed(alloc, open(alloc, 8)?, part) {
+    match resume(alloc, open(alloc, 8)?, &mut ByLaw { alloc }, part) {
         Ok(store) => {
             store.let_go();
             None
@@ -64,5 +65,5 @@ fn are_shown(alloc: Global) -> [Option<bool>; 3] {
 
 #[test]
 fn each_fault_says_where_and_what_to_do(rt: HostRuntime) {
-    assert_eq!(rt; are_shown(rt.alloc()), [Some(true); 3]);
+    assert!(rt; are_shown(rt.alloc()) == [Some(true); 3]);
 }

@@ -1,17 +1,15 @@
 //! Hands of two sessions that take turns: what each hand is answered, which receipts it adds, and which entries the
 //! closed store has.
-ghost use Rattle.tg_shared.specs.Sessions.{MayShare};
-
 use super::opened::{is_answered, read_and_write};
+use super::rounds::{RoundWay, play_round};
 use crate::opened::{cells, opening_with};
 use std::alloc::Global;
-use std::marker::Brand;
 use std::sync::Wait;
 use tg_journal::{Entry, Journal};
 use tg_model::{Cause, Command, Deed, Denial, Edge, Rule, Verb};
 use tg_payload::CellPayload;
 use tg_rights::{Label, Right, Rights};
-use tg_shared::{Blanks, OwnHand, Receipt, Round, Session, Shared, SharedStore, close};
+use tg_shared::{OwnHand, Receipt, Round, Session, SharedStore};
 use tg_store::{ApplyFault, Handed, Limits, Store};
 
 // The worker from whom rights over the target are taken.
@@ -30,27 +28,12 @@ const NOBODY: u64 = 9;
 // receipt, or receipts whose places don't follow one another.
 type HandSeen = (Result<Handed, ApplyFault>, Option<(u64, u64)>);
 
-// What is seen of the hands.
-#[derive(Clone, Copy, PartialEq, Eq, Debug)]
-struct TurnsSeen {
-    // three hands that are served
-    served: [HandSeen; 3],
-    // five hands that are denied
-    denied: [HandSeen; 5],
-    // a hand of a worker who retired
-    retired: HandSeen,
-}
+/// What is seen of the hands: of three that are served, of five that are denied, and of one by a worker who retired.
+pub(crate) type TurnsSeen = ([HandSeen; 3], [HandSeen; 5], HandSeen);
 
-// What is seen of the closed store.
-#[derive(Clone, Copy, PartialEq, Eq, Debug)]
-struct ClosedSeen {
-    // whether its entries are those of the hands and of the retire
-    has_entries: bool,
-    // whether exactly the right workers may read the target, and write to it
-    are_holders: [bool; 2],
-    // how many entries an audit finds legal
-    legal: u64,
-}
+// What is seen of the closed store: whether its entries are those of the hands and of the retire, and whether exactly
+// the right workers may read the target, and write to it. Then how many entries an audit finds legal.
+type ClosedSeen = ([bool; 3], u64);
 
 // What is seen of the hands, and of the closed store.
 type StorySeen = (TurnsSeen, Option<ClosedSeen>);
@@ -168,15 +151,11 @@ fn take_turns<L: Round, R: Wait>(
     let denied = deny(rt, store, first, second);
     let _retired = is_answered(rt, store, third, Command::Retire);
     let read = over_target(FROM, 0, only(Right::R));
-    TurnsSeen {
-        served,
-        denied,
-        retired: hands(rt, store, third, read),
-    }
+    (served, denied, hands(rt, store, third, read))
 }
 
-// The same with the sessions of the store, of which there have to be five.
-fn turns_of<L: Round, R: Wait>(
+/// The same with the sessions of the store, of which there have to be five.
+pub(crate) fn turns_of<L: Round, R: Wait>(
     rt: &R,
     store: &SharedStore<L, CellPayload>,
     sessions: &mut [Session<L>],
@@ -218,11 +197,11 @@ fn entries_asked() -> [(u64, Verb); 14] {
 // Whether the journal has exactly these entries.
 fn has_entries(journal: &Journal, wanted: &[(u64, Verb)]) -> bool {
     let entries = journal.entries();
-    entries.len() == wanted.len()
-        && entries
-            .iter()
-            .zip(wanted.iter())
-            .all(|(entry, wanted)| asked(entry) == Some(*wanted))
+    let mut is_so = entries.len() == wanted.len();
+    for (entry, wanted) in entries.iter().zip(wanted.iter()) {
+        is_so &= asked(entry) == Some(*wanted);
+    }
+    is_so
 }
 
 // Whether exactly these workers hold a right over the target.
@@ -239,69 +218,18 @@ fn are_holders(
 fn closed_seen(alloc: Global, store: &Store<CellPayload>) -> Option<ClosedSeen> {
     let readers = are_holders(alloc, store, Right::R, &[0, FROM, TO])?;
     let writers = are_holders(alloc, store, Right::W, &[FROM, TO])?;
-    Some(ClosedSeen {
-        has_entries: has_entries(store.journal(), &entries_asked()),
-        are_holders: [readers, writers],
-        legal: store.audit(alloc).ok()?.entries(),
-    })
+    let has_entries = has_entries(store.journal(), &entries_asked());
+    let legal = store.audit(alloc).ok()?.entries();
+    Some(([has_entries, readers, writers], legal))
 }
 
-// What is seen of the store, if it was closed.
-fn closed<L: Round>(
-    alloc: Global,
-    store: SharedStore<L, CellPayload>,
-    sessions: Vec<Session<L>>,
-) -> Option<ClosedSeen> {
-    let store = close(store, sessions).ok()?;
-    let seen = closed_seen(alloc, &store);
-    store.let_go();
-    seen
-}
-
-fn seen_of_shared<L: Round, R: Wait>(
-    rt: &R,
-    alloc: Global,
-    shared: Shared<L, CellPayload>,
-) -> Option<StorySeen> {
-    let Shared {
-        store,
-        mut sessions,
-        keeper,
-    } = shared;
-    drop(keeper);
-    let turns = turns_of(rt, &store, &mut sessions);
-    let closed = closed(alloc, store, sessions);
-    Some((turns?, closed))
-}
-
-fn seen_of_store<L: Round, R: Wait>(
-    rt: &R,
-    alloc: Global,
-    blanks: Blanks,
-    store: Store<CellPayload>,
-) -> Option<StorySeen>
-    requires shareable { MayShare L.name L.parts L.keeper L.start blanks store }
-{
-    match SharedStore::<L, CellPayload>::new(alloc, blanks, store) {
-        Ok(shared) => seen_of_shared(rt, alloc, shared),
-        Err(refused) => {
-            refused.store.let_go();
-            None
-        }
-    }
-}
-
-// Shares the store whole.
-fn share<R: Wait>(rt: &R, alloc: Global, store: Store<CellPayload>) -> Option<StorySeen> {
-    let Ok(blanks) = Blanks::new(alloc, store.opening().max_vertices() + 1) else {
-        store.let_go();
-        return None;
-    };
-    seen_of_store::<Brand, R>(rt, alloc, blanks, store)
-}
-
+// Shares a store, and looks at it once it is closed.
 fn story<R: Wait>(rt: &R, alloc: Global) -> Option<StorySeen> {
-    share(rt, alloc, open(alloc)?)
+    let (seen, store) = play_round(rt, alloc, open(alloc)?, RoundWay::Hands);
+    let store = store?;
+    let closed = closed_seen(alloc, &store);
+    store.let_go();
+    Some((seen.turns?, closed))
 }
 
 // A hand that is served, whose first receipt has this place.
@@ -366,15 +294,7 @@ fn hands_have_receipts_that_follow_one_another(rt: HostRuntime) {
         denied_grant(TARGET, Cause::NotDistinct, 11),
         denied_grant(0, missing(Right::G, 1, 0), 12),
     ];
-    let turns = TurnsSeen {
-        served,
-        denied,
-        retired: refused(ApplyFault::NoSuchWorker),
-    };
-    let closed = ClosedSeen {
-        has_entries: true,
-        are_holders: [true, true],
-        legal: 14,
-    };
-    assert_eq!(rt; story(&rt, rt.alloc()), Some((turns, Some(closed))));
+    let turns = (served, denied, refused(ApplyFault::NoSuchWorker));
+    let closed = ([true, true, true], 14);
+    assert!(rt; story(&rt, rt.alloc()) == Some((turns, Some(closed))));
 }

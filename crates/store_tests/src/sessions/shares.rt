@@ -33,22 +33,13 @@ const TWO_ENTRIES: Portion = Portion {
     entries: 2,
 };
 
-// What is seen of the two clients.
-#[derive(Clone, Copy, PartialEq, Eq, Debug)]
-struct ShareSeen {
-    // whether the first makes two vertices, and what it then lacks for a third
-    made: bool,
-    lacks: Option<Lack>,
-    // whether the second still makes its own
-    other_made: bool,
-    // how many edges the first gives up by a leave that it can't pay for, and by a leave that it can pay for. Then the
-    // entries that its purse has
-    left: [Option<u64>; 2],
-    paid_to: u64,
-    // how many entries the closed store has, and what else is counted of it
-    entries: u64,
-    counted: Counted,
-}
+// What is seen of the two clients. The first is whether each of them makes its vertices, and the second what the first
+// client then lacks for another. The next is how many edges it gives up by a leave that it can't pay for, and by one
+// that it can pay for. The last is the entries that its purse has.
+type ClientsSeen = ([bool; 3], Option<Lack>, [Option<u64>; 2], u64);
+
+// What is seen of the clients, how many entries the closed store has, and what else is counted of it.
+type ShareSeen = (ClientsSeen, u64, Counted);
 
 // Lets a client make a vertex, if it can pay for it.
 fn makes<L: Round, V: Ledger, E: Ledger, R: Wait>(
@@ -94,23 +85,13 @@ fn see<L: Round, V: Ledger, E: Ledger, R: Wait>(
     store: &MeteredStore<L, V, E, CellPayload>,
     first: &mut Client<L, V, E>,
     second: &mut Client<L, V, E>,
-) -> ShareSeen {
-    let made = [
-        makes(rt, alloc, store, first),
-        makes(rt, alloc, store, first),
-    ];
+) -> ClientsSeen {
+    let once = makes(rt, alloc, store, first);
+    let twice = makes(rt, alloc, store, first);
     let lacks = lacks(first);
-    let other_made = makes(rt, alloc, store, second);
+    let other = makes(rt, alloc, store, second);
     let left = leaves(rt, store, first, second);
-    ShareSeen {
-        made: made == [true, true],
-        lacks,
-        other_made,
-        left,
-        paid_to: first.purse.entries(),
-        entries: 0,
-        counted: [0, 0, 0],
-    }
+    ([once, twice, other], lacks, left, first.purse.entries())
 }
 
 // The client with the last of the sessions, and this purse.
@@ -184,15 +165,11 @@ fn add<L: Round, V: Ledger, E: Ledger>(sessions: &mut Vec<Session<L>>, client: C
 }
 
 // Adds the counts of the closed store to what was seen.
-fn with_counts(seen: ShareSeen, store: Store<CellPayload>) -> ShareSeen {
+fn with_counts(seen: ClientsSeen, store: Store<CellPayload>) -> ShareSeen {
     let entries = store.journal().len();
     let counted = counted(&store);
     store.let_go();
-    ShareSeen {
-        entries,
-        counted,
-        ..seen
-    }
+    (seen, entries, counted)
 }
 
 fn share<L: Round, V: Ledger, E: Ledger, R: Wait>(
@@ -237,14 +214,7 @@ fn story<R: Wait>(rt: &R, alloc: Global) -> Option<ShareSeen> {
 // collects.
 #[test]
 fn shares_hold_and_are_paid_from(rt: HostRuntime) {
-    let wanted = ShareSeen {
-        made: true,
-        lacks: Some(Lack::Vertices),
-        other_made: true,
-        left: [None, Some(2)],
-        paid_to: 0,
-        entries: 6,
-        counted: [5, 0, 0],
-    };
-    assert_eq!(rt; story(&rt, rt.alloc()), Some(wanted));
+    let clients = ([true; 3], Some(Lack::Vertices), [None, Some(2)], 0);
+    let wanted = (clients, 6, [5, 0, 0]);
+    assert!(rt; story(&rt, rt.alloc()) == Some(wanted));
 }

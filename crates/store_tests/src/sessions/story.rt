@@ -1,25 +1,22 @@
 //! A shared store of two workers. Its sessions get answers, and its journal is handed out in two parts. One session is
 //! taken over, and one worker is ended. In the end the store is taken back.
 ghost use Rattle.std.specs.Prelude.{◌≡◌, true};
-ghost use Rattle.tg_shared.specs.Sessions.{MayShare};
 
 use super::opened::{Counted, counted, is_answered, makes, open_store, spawned_by};
+use super::rounds::{RoundWay, SharedRound, play_round};
 use std::alloc::Global;
-use std::marker::Brand;
 use std::sync::Wait;
 use tg_model::Command;
 use tg_payload::CellPayload;
-use tg_shared::{
-    Blanks, Keeper, Receipt, Round, Session, Shared, SharedStore, close_with, receipts_match,
-};
+use tg_shared::{Receipt, Round, Session, SharedStore, receipts_match};
 use tg_store::{ApplyFault, Store};
 
 // A part of a journal: the place of its first entry, the one after its last, and whether receipts match it.
 type Part = (u64, u64, bool);
 
-// What is seen while the store is shared: where it can't be, nothing.
+/// What is seen while the store is shared.
 #[derive(Clone, Copy)]
-struct StoryTold {
+pub(crate) struct StoryTold {
     // the bits of the rights that each of the two sessions holds over the vertex that the first session made
     labels: [u8; 2],
     // two parts, each with the receipts of the first
@@ -42,12 +39,6 @@ const NOTHING: StoryTold = StoryTold {
     held_by_ended: [0, 0],
     nobody: (None, false),
 };
-
-// A shared store with its keeper.
-struct SharedRound<L: Round> {
-    store: SharedStore<L, CellPayload>,
-    keeper: Keeper<L>,
-}
 
 // The bits of what the session's worker holds over a vertex, or 0 if it holds nothing.
 fn held_by<L: Round, R: Wait>(
@@ -176,19 +167,19 @@ fn tell_of_two<L: Round, R: Wait>(
     }
 }
 
-// Plays the story with the sessions of a store. There have to be two sessions.
-fn tell<L: Round, R: Wait>(
+/// Plays the story with the sessions of a store. There have to be two sessions.
+pub(crate) fn tell<L: Round, R: Wait>(
     rt: &R,
     alloc: Global,
     kept: &mut SharedRound<L>,
     sessions: &mut [Session<L>],
-) -> StoryTold
+) -> Option<StoryTold>
     requires in_parts { L.start.in_parts ≡ true }
     requires may_end { L.start.may_end ≡ true }
 {
     match sessions {
-        [first, second] => tell_of_two(rt, alloc, kept, first, second),
-        _ => NOTHING,
+        [first, second] => Some(tell_of_two(rt, alloc, kept, first, second)),
+        _ => None,
     }
 }
 
@@ -197,127 +188,77 @@ fn tell<L: Round, R: Wait>(
 // holds them. The last are its counts.
 type Back = ([u64; 4], Counted);
 
-// What is seen of the shared store, and of the store that is taken back.
-type StorySeen = (StoryTold, Option<Back>);
-
-// The numbers of the entries, if the store was taken back.
-fn entries_of<L: Round>(keeper: &Keeper<L>, closed: Option<Store<CellPayload>>) -> Option<Back> {
-    let store = closed?;
+// The numbers of a store that was taken back, with those of its keeper.
+fn back_of(store: &Store<CellPayload>, of_keeper: [u64; 2]) -> Back {
+    let [entered, next] = of_keeper;
     let journal = store.journal();
-    let entries = [
-        keeper.entered(),
-        keeper.next(),
-        journal.len(),
-        journal.start(),
-    ];
-    let counted = counted(&store);
+    (
+        [entered, next, journal.len(), journal.start()],
+        counted(store),
+    )
+}
+
+// What is seen of the shared store, and of the store that is taken back.
+fn story<R: Wait>(rt: &R, alloc: Global) -> Option<(StoryTold, Back)> {
+    let (seen, store) = play_round(rt, alloc, open_store(alloc)?, RoundWay::Tells);
+    let store = store?;
+    let back = back_of(&store, seen.of_keeper);
     store.let_go();
-    Some((entries, counted))
-}
-
-fn seen_of_shared<L: Round, R: Wait>(
-    rt: &R,
-    alloc: Global,
-    mut kept: SharedRound<L>,
-    mut sessions: Vec<Session<L>>,
-) -> StorySeen
-    requires in_parts { L.start.in_parts ≡ true }
-    requires may_end { L.start.may_end ≡ true }
-{
-    let told = tell(rt, alloc, &mut kept, &mut sessions);
-    let SharedRound { store, mut keeper } = kept;
-    let closed = close_with(store, sessions, &mut keeper).ok();
-    (told, entries_of(&keeper, closed))
-}
-
-fn seen_of_store<L: Round, R: Wait>(
-    rt: &R,
-    alloc: Global,
-    blanks: Blanks,
-    store: Store<CellPayload>,
-) -> StorySeen
-    requires shareable { MayShare L.name L.parts L.keeper L.start blanks store }
-    requires in_parts { L.start.in_parts ≡ true }
-    requires may_end { L.start.may_end ≡ true }
-{
-    match SharedStore::<L, CellPayload>::new(alloc, blanks, store) {
-        Ok(
-            Shared {
-                store,
-                sessions,
-                keeper,
-            },
-        ) => seen_of_shared(rt, alloc, SharedRound { store, keeper }, sessions),
-        Err(refused) => {
-            refused.store.let_go();
-            (NOTHING, None)
-        }
-    }
-}
-
-// Shares the store, so that its keeper may take parts and end workers.
-fn share<R: Wait>(rt: &R, alloc: Global, store: Store<CellPayload>) -> StorySeen {
-    let Ok(blanks) = Blanks::new(alloc, store.opening().max_vertices() + 1) else {
-        store.let_go();
-        return (NOTHING, None);
-    };
-    seen_of_store::<Brand, R>(rt, alloc, blanks, store)
-}
-
-fn story<R: Wait>(rt: &R, alloc: Global) -> StorySeen {
-    match open_store(alloc) {
-        Some(store) => share(rt, alloc, store),
-        None => (NOTHING, None),
-    }
+    Some((seen.told?, back))
 }
 
 // What the sessions see of the store while it is shared.
 fn while_shared<R: Wait>(rt: &R, alloc: Global) -> StoryTold {
-    story(rt, alloc).0
+    match story(rt, alloc) {
+        Some((told, _)) => told,
+        None => NOTHING,
+    }
+}
+
+// What is seen of the store that is taken back.
+fn taken_back<R: Wait>(rt: &R, alloc: Global) -> Option<Back> {
+    match story(rt, alloc) {
+        Some((_, back)) => Some(back),
+        None => None,
+    }
 }
 
 // A session gets the label of its own worker.
 #[test]
 fn labels_are_told(rt: HostRuntime) {
-    assert_eq!(rt; while_shared(&rt, rt.alloc()).labels, [3, 0]);
+    assert!(rt; while_shared(&rt, rt.alloc()).labels == [3, 0]);
 }
 
 // A part begins where the last one ended, and the receipts so far match the first.
 #[test]
 fn a_journal_is_taken_in_parts(rt: HostRuntime) {
-    assert_eq!(rt;
-        while_shared(&rt, rt.alloc()).parts,
-        [(0, 1, true), (1, 4, false)]
-    );
+    assert!(rt; while_shared(&rt, rt.alloc()).parts == [(0, 1, true), (1, 4, false)]);
 }
 
 // A session with a receipt isn't taken over, and then it is.
 #[test]
 fn a_session_is_taken_over(rt: HostRuntime) {
-    assert_eq!(rt; while_shared(&rt, rt.alloc()).taken_over, [false, true]);
+    assert!(rt; while_shared(&rt, rt.alloc()).taken_over == [false, true]);
 }
 
 // A worker that is ended gives up its edge, and its session is answered that there is no such worker.
 #[test]
 fn a_worker_is_ended(rt: HostRuntime) {
     let wanted = (Some(1), Some(ApplyFault::NoSuchWorker));
-    assert_eq!(rt; while_shared(&rt, rt.alloc()).ended, wanted);
+    assert!(rt; while_shared(&rt, rt.alloc()).ended == wanted);
 }
 
 // A label is that of the graph now. A worker that the keeper ended holds nothing over its own vertex any more. Its
 // session saw rights over the vertex before, and made no call in between.
 #[test]
 fn a_label_is_not_remembered(rt: HostRuntime) {
-    assert_eq!(rt; while_shared(&rt, rt.alloc()).held_by_ended, [3, 0]);
+    assert!(rt; while_shared(&rt, rt.alloc()).held_by_ended == [3, 0]);
 }
 
 // A name that is no worker's is ended of nobody: the first session acts on.
 #[test]
 fn nobody_else_is_ended(rt: HostRuntime) {
-    assert_eq!(rt;
-        while_shared(&rt, rt.alloc()).nobody,
-        (Some(ApplyFault::NoSuchWorker), true)
-    );
+    assert!(rt; while_shared(&rt, rt.alloc()).nobody == (Some(ApplyFault::NoSuchWorker), true));
 }
 
 // The store is closed without the session that was taken over, and with the session of the worker that was ended. The
@@ -325,5 +266,5 @@ fn nobody_else_is_ended(rt: HostRuntime) {
 // collect, and it didn't.
 #[test]
 fn a_shared_store_is_cut_and_closes(rt: HostRuntime) {
-    assert_eq!(rt; story(&rt, rt.alloc()).1, Some(([2, 4, 8, 4], [5, 0, 0])));
+    assert!(rt; taken_back(&rt, rt.alloc()) == Some(([2, 4, 8, 4], [5, 0, 0])));
 }

@@ -13,19 +13,19 @@ use Rattle.tg_rebuild.proofs.EdgeLaws.{joined_more, kept_both, shown_ends, verte
 use Rattle.tg_rebuild.proofs.LineLaws.{rise_in}
 use Rattle.tg_rebuild.proofs.edges.add_edges.Goals as goal
 
-pub line_shown-requires-clause-rise : goal.line_shown-requires-clause-rise
-line_shown-requires-clause-rise g c = rise_in c.args.snapshot.now c.picture.ensures.accepted c.vertices-vertices.result.now c.vertices-vertices.ensures
+pub line_from-from-requires-clause-rise : goal.line_from-from-requires-clause-rise
+line_from-from-requires-clause-rise g c = rise_in c.args.snapshot.now c.picture.ensures.accepted c.vertices-vertices.result.now c.vertices-vertices.ensures
 
-pub line_shown-requires-clause-shown : goal.line_shown-requires-clause-shown
-line_shown-requires-clause-shown g c =
+pub line_from-from-requires-clause-shown : goal.line_from-from-requires-clause-shown
+line_from-from-requires-clause-shown g c =
     let ends = shown_ends c.args.snapshot.now c.picture.ensures.accepted c.edges-edges.result.now (c.edges-edges.ensures ∙ ap (λ (s : Shown). s.edges) c.picture.ensures.picture) c.loop-edge.edge-index c.edge-item.result c.loop-edge-test.true c.edge-item.is in
     subst (λ (vs : List ShownVertex). ShowsName vs c.edge-item.result.from) (sym c.vertices-vertices.ensures) ends.from
 
-pub line_shown-requires-in-loop-edge-clause-rise : goal.line_shown-requires-in-loop-edge-clause-rise
-line_shown-requires-in-loop-edge-clause-rise g c = rise_in c.args.snapshot.now c.picture.ensures.accepted c.vertices-vertices.result.now c.vertices-vertices.ensures
+pub line_from-to-requires-clause-rise : goal.line_from-to-requires-clause-rise
+line_from-to-requires-clause-rise g c = rise_in c.args.snapshot.now c.picture.ensures.accepted c.vertices-vertices.result.now c.vertices-vertices.ensures
 
-pub line_shown-requires-in-loop-edge-clause-shown : goal.line_shown-requires-in-loop-edge-clause-shown
-line_shown-requires-in-loop-edge-clause-shown g c =
+pub line_from-to-requires-clause-shown : goal.line_from-to-requires-clause-shown
+line_from-to-requires-clause-shown g c =
     let ends = shown_ends c.args.snapshot.now c.picture.ensures.accepted c.edges-edges.result.now (c.edges-edges.ensures ∙ ap (λ (s : Shown). s.edges) c.picture.ensures.picture) c.loop-edge.edge-index c.edge-item.result c.loop-edge-test.true c.edge-item.is in
     subst (λ (vs : List ShownVertex). ShowsName vs c.edge-item.result.to) (sym c.vertices-vertices.ensures) ends.to
 
@@ -35,16 +35,16 @@ add_edge-requires g c =
     let at = vertex_at c.args.snapshot.now c.picture.ensures.accepted c.args.heap.now c.loop-edge.heap c.vertices-vertices.result.now c.vertices-vertices.ensures c.args.places.now in
     record {
       worker = subst (λ (subjects : List Subject). Contains (names_of subjects) c.args.holder) (sym c.loop-edge.invariant.kept.subjects) c.requires.holder;
-      from = (at c.edge-item.result.from c.line_shown.result nowhere c.requires.placed c.loop-edge.invariant.kept c.line_shown.ensures).object;
-      to = (at c.edge-item.result.to c.line_shown-in-loop-edge.result nowhere c.requires.placed c.loop-edge.invariant.kept c.line_shown-in-loop-edge.ensures).object;
+      from = (at c.edge-item.result.from c.line_from-from.result nowhere c.requires.placed c.loop-edge.invariant.kept c.line_from-from.ensures).object;
+      to = (at c.edge-item.result.to c.line_from-to.result nowhere c.requires.placed c.loop-edge.invariant.kept c.line_from-to.ensures).object;
     }
 
 pub loop-edge-preserved : goal.loop-edge-preserved
 loop-edge-preserved g c =
     let nowhere : Place = record { space = 0; block = 0; cell = 0 } in
     let at = vertex_at c.args.snapshot.now c.picture.ensures.accepted c.args.heap.now c.loop-edge.heap c.vertices-vertices.result.now c.vertices-vertices.ensures c.args.places.now in
-    let from = at c.edge-item.result.from c.line_shown.result nowhere c.requires.placed c.loop-edge.invariant.kept c.line_shown.ensures in
-    let to = at c.edge-item.result.to c.line_shown-in-loop-edge.result nowhere c.requires.placed c.loop-edge.invariant.kept c.line_shown-in-loop-edge.ensures in
+    let from = at c.edge-item.result.from c.line_from-from.result nowhere c.requires.placed c.loop-edge.invariant.kept c.line_from-from.ensures in
+    let to = at c.edge-item.result.to c.line_from-to.result nowhere c.requires.placed c.loop-edge.invariant.kept c.line_from-to.ensures in
     let es : List Edge = c.edges-edges.result.now in
     let i : ℕ = c.loop-edge.edge-index in
     let e : Edge = c.edge-item.result in
