@@ -278,6 +278,18 @@ class Store(_Held, Marked):
         self.retire(worker)
         return len(row)
 
+    def withdraw(self, target: int, rights: int, keep: Iterable[int] = ()) -> List[int]:
+        """Each worker outside of `keep` removes what it holds of the rights over the target, by rising name. Returns who still holds
+        some of them, of all that a worker then reaches, by rising name."""
+        target, rights, *kept = numbers_in(target, rights, *keep)
+        must_be_rights(rights)
+        self._must_be_open()
+        for worker in self.subjects():
+            held = self._graph.label(worker, target) & rights
+            if held and worker not in kept:
+                self.remove(worker, target, held)
+        return self._graph.holders(rights, target)
+
     def _must_work(self, worker: int) -> None:
         """The store is open, and the worker is active."""
         self._must_be_open()
