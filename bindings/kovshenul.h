@@ -338,6 +338,12 @@ tg_status tg_leave(tg_store *store, uint64_t worker, uint64_t *count);
    comes if it isn't one right. */
 tg_status tg_who_holds(tg_store *store, uint64_t right, uint64_t name, uint64_t *names, size_t room, uint64_t *count);
 
+/* Lists the edges to the vertex with this name, of all vertices that a worker reaches, by rising name of the vertex from which each
+   leads. In each, `to` is this vertex, and the rights are those that it holds over the one that is asked about. The first `room` of
+   them go to edges. How many there are goes to *count. A vertex that was never made has no edge. The journal gets no entry. Time and
+   memory follow what the workers reach. So a host finds who holds on to a worker that left. */
+tg_status tg_edges_to(tg_store *store, uint64_t name, tg_target *edges, size_t room, uint64_t *count);
+
 /* Withdraws rights over a target. Each worker with a name outside of `keep` removes what it holds of the rights. Each remove has
    an entry, as if the worker had asked for it, and the entries come by rising name. Afterwards no worker outside of `keep` holds
    any of the rights over the target, and all other labels are as they were. The call is done whole or not at all.

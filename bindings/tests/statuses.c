@@ -518,7 +518,9 @@ static void a_worker_leaves(void) {
     tg_store store = TG_STORE_INIT;
     tg_record entry;
     uint64_t client, document, names[4] = { UNTOUCHED, UNTOUCHED, UNTOUCHED, UNTOUCHED }, count = UNTOUCHED, entries;
+    tg_target to[4] = { { UNTOUCHED, 0 }, { UNTOUCHED, 0 }, { UNTOUCHED, 0 }, { UNTOUCHED, 0 } };
     WANT(tg_leave(&store, 0, &count) == TG_NOT_OPEN && tg_who_holds(&store, TG_READ, 0, names, 4, &count) == TG_NOT_OPEN);
+    WANT(tg_edges_to(&store, 0, to, 4, &count) == TG_NOT_OPEN && count == UNTOUCHED && to[0].to == UNTOUCHED);
     WANT(tg_open(&store, workers, 2, edges, 2, &limits) == TG_DONE);
     WANT(tg_spawn(&store, 0, TG_GRANT | TG_TAKE, &sum, &client) == TG_DONE);
     WANT(tg_create(&store, client, TG_READ | TG_WRITE, &sum, &document) == TG_DONE);
@@ -527,6 +529,11 @@ static void a_worker_leaves(void) {
     WANT(names[0] == 0 && names[1] == client && names[2] == UNTOUCHED);
     WANT(tg_who_holds(&store, TG_WRITE, document, NULL, 0, &count) == TG_DONE && count == 1);
     WANT(tg_who_holds(&store, TG_WRITE, document + 1, names, 4, &count) == TG_DONE && count == 0);
+    count = UNTOUCHED;
+    WANT(tg_edges_to(&store, document, to, 4, &count) == TG_DONE && count == 2 && to[0].to == 0 && to[0].rights == TG_READ);
+    WANT(to[1].to == client && to[1].rights == (TG_READ | TG_WRITE) && to[2].to == UNTOUCHED);
+    WANT(tg_edges_to(&store, document, NULL, 0, &count) == TG_DONE && count == 2);
+    WANT(tg_edges_to(&store, document + 1, to, 4, &count) == TG_DONE && count == 0);
     count = UNTOUCHED;
     WANT(tg_who_holds(&store, 0, document, names, 4, &count) == TG_BAD_RIGHTS);
     WANT(tg_who_holds(&store, TG_READ | TG_WRITE, document, names, 4, &count) == TG_BAD_RIGHTS && count == UNTOUCHED);

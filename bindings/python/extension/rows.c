@@ -172,3 +172,36 @@ PyObject *store_withdraw(PyObject *it, PyObject *const *words, Py_ssize_t count)
         return NULL;
     return holders_told(self, &asked, NULL);
 }
+
+/* Asks for the edges to a vertex, with room for one from each vertex of the heap. It runs without the interpreter. The edges are
+   the caller's to free. */
+static tg_status ask_edges(struct store *self, uint64_t name, tg_target **edges, uint64_t *count) {
+    const struct library *library = &self->state->library;
+    tg_counts counts;
+    uint64_t room = library->census(&self->place, &counts) == TG_DONE ? counts.vertices : 0;
+    for (;;) {
+        free(*edges);
+        *edges = room < SIZE_MAX / sizeof **edges ? malloc((size_t)(room + 1) * sizeof **edges) : NULL;
+        if (*edges == NULL)
+            return TG_OUT_OF_MEMORY;
+        tg_status status = library->edges_to(&self->place, name, *edges, (size_t)room, count);
+        if (status != TG_DONE || *count <= room)
+            return status;
+        room = *count;
+    }
+}
+
+PyObject *store_edges_to(PyObject *it, PyObject *const *words, Py_ssize_t count) {
+    struct store *self = (struct store *)it;
+    struct state *state = self->state;
+    uint64_t name, found = 0;
+    tg_target *edges = NULL;
+    if (!numbers_of(state, words, count, &name, 1) || !begin_long(state))
+        return NULL;
+    tg_status status = ask_edges(self, name, &edges, &found);
+    PyObject *told = NULL;
+    if (end_long(state))
+        told = status == TG_DONE ? targets_told(state, edges, found) : refused(state, status, NULL, NULL);
+    free(edges);
+    return told;
+}

@@ -11,7 +11,7 @@ from ._marks import Marked
 from ._packed import bytes_of, commands_in, entry_in, limits_in, opening_in, scene_in, value_in
 from ._refusals import BadPlace, Denied, Refused, refusal
 from ._snapshot import Snapshot
-from ._values import RIGHTS, Counts, Kind, Limits, Rights, Target, Value
+from ._values import RIGHTS, Counts, Edge, Kind, Limits, Rights, Target, Value
 from ._view import View
 from .journal import Deed, Entry, Reply, entry_of
 from .outlook import Outlook, outlook_of
@@ -200,6 +200,11 @@ class Store(Held, Marked):
         """Returns who holds the right over the vertex with this name, by rising name: workers, objects, and workers that retired,
         of all that a worker reaches. The journal gets no entry. It raises BadRights if it isn't one right."""
         return self._place.who_holds(right, name)
+
+    def edges_to(self, name: int) -> List[Edge]:
+        """Returns the edges to the vertex with this name, of all that a worker reaches, by rising name of the vertex from which each
+        leads. A vertex that was never made has none. The journal gets no entry. So a host finds who holds on to a worker that left."""
+        return [Edge(source, name, rights) for source, rights in self._place.edges_to(name)]
 
     def subjects(self) -> List[int]:
         """Returns the names of the active workers, rising. The journal gets no entry."""

@@ -116,7 +116,7 @@ LETTERS = {Cell: "c", Sum: "s", Max: "m", Log: "l"}
 
 
 class Edge(NamedTuple):
-    """The rights of worker `source` over worker `target`, at the opening."""
+    """The rights of `source` over `target`: of one worker over another at the opening, or of a vertex over the one that is asked about."""
 
     source: int
     target: int

@@ -50,7 +50,7 @@ from ._refusals import (
     WorkersFull,
     refusal,
 )
-from ._rules import Denial, Full, Graph
+from ._rules import ALL_RIGHTS, Denial, Full, Graph
 from ._snapshot import Snapshot
 from ._texts import end_text, opening_text
 from ._values import MOST_NUMBERS, Cell, Counts, Edge, Kind, Limits, Log, Max, Rights, Sum, Target, Value
@@ -333,6 +333,13 @@ class Store(_Held, Marked):
         must_be_one(right)
         self._must_be_open()
         return self._graph.holders(right, name)
+
+    def edges_to(self, name: int) -> List[Edge]:
+        """Returns the edges to the vertex with this name, of all that a worker reaches, by rising name of the vertex from which each
+        leads."""
+        (name,) = numbers_in(name)
+        self._must_be_open()
+        return [Edge(source, name, Rights(self._graph.label(source, name))) for source in self._graph.holders(ALL_RIGHTS, name)]
 
     def subjects(self) -> List[int]:
         """The names of the active workers, rising."""

@@ -181,6 +181,7 @@ class Run:
                 self.same("read", x, y)
         for y in range(max(0, made - 12), made + 1):
             self.same("who_holds", self.draw.rng.choice(list(Rights)), y)
+            self.same("edges_to", y)
         self.same("collect", FULL)
         self.same("names")
         counts, wanted = self.store.census(), self.model.census()
@@ -399,7 +400,7 @@ class Surface(unittest.TestCase):
             self.assertRaises(NotOpen, it.__enter__)
         self.assertRaises(NotOpen, view.could, 0, READ, 1)
         calls = [("read", 0, 1), ("list", 0), ("create", 0, READ, Cell(0)), ("leave", 0), ("label", 0, 1), ("subjects",)]
-        calls += [("hand", 0, 1, 1, 0, READ), ("withdraw", 1, READ), ("who_holds", READ, 1), ("could", 0, READ, 1), ("view",), ("collect",), ("names",), ("census",)]
+        calls += [("hand", 0, 1, 1, 0, READ), ("withdraw", 1, READ), ("who_holds", READ, 1), ("edges_to", 1), ("could", 0, READ, 1), ("view",), ("collect",), ("names",), ("census",)]
         calls += [("entries",), ("entry", 0), ("forget", 0), ("audit",), ("go_on", 0, [kovshenul.journal.Entry(0, kovshenul.journal.List(), kovshenul.journal.Done())])]
         for call, *arguments in calls:
             self.assertRaises(NotOpen, getattr(model, call), *arguments)
@@ -489,6 +490,7 @@ WRONG_STORES = {
     "an inspect shows one's own edges": ("inspect", lambda it, x, y, room=64: Store.list(it, x)),
     "a label without v": ("label", lambda it, x, y: Store.label(it, x, y) & ~Rights.FREE_V),
     "objects hold nothing": ("who_holds", lambda it, right, y: [x for x in Store.who_holds(it, right, y) if x in it.subjects()]),
+    "retired workers have no edge": ("edges_to", lambda it, y: [edge for edge in Store.edges_to(it, y) if edge.source in it.subjects()]),
     "the edge of a denial": ("write", lambda it, x, y, number: with_wrong_edge(Store.write.__get__(it), x, y, number)),
     "the silent ones act": ("could", lambda it, x, right, y, silent, as_if: Store.could(it, x, right, y, (), as_if)),
     "no edge is supposed": ("view", lambda it, silent, as_if: Store.view(it, silent)),

@@ -160,7 +160,7 @@ class BackEnds(unittest.TestCase):
             calls += [(store.hand, 0, 1, 1, 1, 1), (Store.reopen, auditor.snapshot(), LIMITS)]
             calls += [(store.write, 0, 1, 1), (store.append, 0, 1, 1), (store.create, 0, 1, Cell(0)), (store.spawn, 0, 1, Cell(0))]
             calls += [(store.list, 0), (store.inspect, 0, 1), (store.retire, 0), (store.leave, 0), (store.label, 0, 1)]
-            calls += [(store.who_holds, 1, 1), (store.withdraw, 1, 1), (store.could, 0, 1, 1), (store.view,), (store.collect,), (store.census,)]
+            calls += [(store.who_holds, 1, 1), (store.withdraw, 1, 1), (store.edges_to, 1), (store.could, 0, 1, 1), (store.view,), (store.collect,), (store.census,)]
             calls += [(it,) for it in (store.names, store.subjects, store.entries, store.first, store.audit)]
             calls += [(store.entry, 0), (store.forget, 0), (auditor.feed, store), (auditor.forget, store, 0), (auditor.sweep,)]
             calls += [(view.could, 0, 1, 1), (lambda: auditor.at,), (Store, [Cell(0)]), (Auditor, [Cell(0)])]
@@ -499,6 +499,8 @@ class Stores(unittest.TestCase):
             self.assertEqual([store.leave(client) for client in clients], [3, 3, 3])
             self.assertEqual((store.collect(), store.names()), (5, {0, 1, *clients}))
             self.assertEqual([store.who_holds(GRANT, client) for client in clients], [[0], [0], [0]])
+            self.assertEqual(store.edges_to(clients[1]), [Edge(0, clients[1], GRANT | TAKE)])
+            self.assertEqual((store.edges_to(999), store.edges_to(notes[0])), ([], []))
             self.assertEqual([store.who_holds(READ, note) for note in notes], [[], [], []])
             self.assertEqual(store.audit(), store.entries())
 

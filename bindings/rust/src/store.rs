@@ -293,6 +293,29 @@ impl Store {
         })
     }
 
+    /// Returns the edges to the vertex with this name, of all that a worker reaches, by rising name of the vertex from which each
+    /// leads. A vertex that was never made has none. The journal gets no entry. So a host finds who holds on to a worker that left.
+    ///
+    /// ```
+    /// # use kovshenul::{Edge, Error, Limits, Rights, Store, Value};
+    /// # let mut store = Store::open(&[Value::Cell(0)], &[], &Limits::default())?;
+    /// let client = store.spawn(0, Rights::GRANT, Value::Cell(0))?;
+    /// store.leave(client)?;
+    /// assert_eq!(store.edges_to(client)?, [Edge { from: 0, to: client, rights: Rights::GRANT }]);
+    /// # Ok::<(), Error>(())
+    /// ```
+    pub fn edges_to(&self, name: u64) -> Result<Vec<Edge>, Error> {
+        // Each leads from a vertex of the heap, so one walk of the graph finds room for all.
+        let (mut edges, mut count) = (vec![RawTarget::default(); self.census()?.vertices as usize], 0);
+        loop {
+            served(unsafe { raw::tg_edges_to(self.at(), name, edges.as_mut_ptr(), edges.len(), &mut count) })?;
+            if let Some(edges) = edges.get(..count as usize) {
+                return Ok(edges.iter().map(|edge| Edge { from: edge.to, to: name, rights: Rights::told(edge.rights) }).collect());
+            }
+            edges.resize(count as usize, RawTarget::default());
+        }
+    }
+
     // Asks for names of vertices, and asks again if there was too little room. The call of the library may be made twice.
     fn each_name(&self, ask: impl Fn(*mut u64, usize, &mut u64) -> u32) -> Result<Vec<u64>, Error> {
         // Each is a vertex of the heap, so one walk of the graph finds room for all. The room isn't cleared.

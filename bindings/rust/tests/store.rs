@@ -240,7 +240,9 @@ fn three_who_know_each_other_leave_empty_rows() {
     let mut names = store.names().unwrap();
     names.sort();
     assert_eq!(names, [vec![0], clients.clone()].concat());
+    assert_eq!((store.edges_to(notes[0]), store.edges_to(999)), (Ok(vec![]), Ok(vec![])));
     for (client, note) in clients.iter().zip(&notes) {
+        assert_eq!(store.edges_to(*client), Ok(vec![Edge { from: 0, to: *client, rights: know }]));
         assert_eq!((store.who_holds(Rights::GRANT, *client), store.who_holds(Rights::READ, *note)), (Ok(vec![0]), Ok(vec![])));
     }
     assert_eq!(store.entries(), store.audit());
