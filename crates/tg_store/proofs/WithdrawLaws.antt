@@ -437,6 +437,18 @@ module _ (g : ProtectionGraph) (y : ℕ) (rights : RightSet) (keep : List ℕ) w
   label_kept a b (inl elsewhere) = ap (λ v. cond (v && list_any (λ x. x == a) those) (minus (g.label a b) rights) (g.label a b)) (ne_eqb b y elsewhere)
   label_kept a b (inr which) =
       ap (λ v. cond ((b == y) && v) (minus (g.label a b) rights) (g.label a b)) (not_any a those (λ has.
-        let is = Contains-from_filter (λ z. not (list_any (λ k. k == z) keep)) g.subjects a has in
-        ⊎_elim (λ kept. true≢false (sym (any_of a keep kept) ∙ true_not_false (list_any (λ k. k == a) keep) is.1)) (λ none. none is.0) which))
+      let is = Contains-from_filter (λ z. not (list_any (λ k. k == z) keep)) g.subjects a has in
+      ⊎_elim (λ kept. true≢false (sym (any_of a keep kept) ∙ true_not_false (list_any (λ k. k == a) keep) is.1)) (λ none. none is.0) which))
       ∙ and_none (b == y) (minus (g.label a b) rights) (g.label a b)
+
+  and_true : (b : Bool) → (b && true) ≡ b
+  and_true true = refl
+  and_true false = refl
+
+  -- rights that aren't withdrawn stay
+  pub rest_kept : (a b : ℕ) (right : Right) → has rights right ≡ false → has ((withdrawn g y rights keep).label a b) right ≡ has (g.label a b) right
+  rest_kept a b right other =
+      elim ((b == y) && list_any (λ x. x == a) those) as (λ v. has (cond v (minus (g.label a b) rights) (g.label a b)) right ≡ has (g.label a b) right) [
+        | true ↦ has-minus (g.label a b) rights right ∙ ap (λ v. has (g.label a b) right && not v) other ∙ and_true (has (g.label a b) right)
+        | false ↦ refl
+      ]

@@ -12,6 +12,5 @@ pub mod Leaving
 pub mod Handing
 pub mod Withdrawing
 pub mod Holding
-pub mod Laws
 pub mod Again
 pub mod Inner

@@ -71,7 +71,11 @@ fn edges_of_each<P: Payload>(
 }
 
 /// The names in these edges whose label has some of the rights, in their order. Fails only when out of memory.
-pub(crate) fn holders_in(alloc: Global, edges: &[(u64, Label)], rights: Rights) -> Result<Vec<u64>, AllocError>
+pub(crate) fn holders_in(
+    alloc: Global,
+    edges: &[(u64, Label)],
+    rights: Rights,
+) -> Result<Vec<u64>, AllocError>
     ensures { IfOk result (λ names. names.items ≡ names_sharing rights edges.now) }
 {
     let mut names = Vec::new(alloc);

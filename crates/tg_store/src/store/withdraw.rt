@@ -38,8 +38,14 @@ impl<P: Payload> Store<P> {
         let withdrawal = Withdrawal::new(self.alloc, &self.heap, target, rights, keep)?;
         let left = withdrawal.holders_after(self.alloc, &self.heap, self.made)?;
         let removals = withdrawal.removals(self.alloc, &self.heap)?;
-        self.journal.reserve_many(removals.len())?;
-        enter_removals(&mut self.heap, &mut self.journal, target, &removals);
+        let count = removals.as_slice().len();
+        self.journal.reserve_many(count)?;
+        enter_removals(
+            &mut self.heap,
+            &mut self.journal,
+            target,
+            removals.as_slice(),
+        );
         Ok(left)
     }
 }

@@ -70,7 +70,7 @@ impl Withdrawal {
         ensures { IfOk result (λ removals. removals.items ≡ given_up (content_of heap.now).label self.now.target self.now.rights (names_found self.now.givers.items)) }
     {
         let mut removals = Vec::new(alloc);
-        for giver in &self.givers {
+        for giver in self.givers.as_slice() {
             if let Some(shared) = self.shared_by(heap, giver.1) {
                 removals.push((giver.0, shared))?;
             }
@@ -91,8 +91,8 @@ impl Withdrawal {
             × (names.items ≡ names_sharing self.now.rights (edges_over (content_left self.now (content_of heap.now)).label self.now.target vertices))) }
     {
         let reached = self.reached_after(alloc, heap, made)?;
-        let edges = self.edges_after(alloc, heap, &reached)?;
-        holders_in(alloc, &edges, self.rights.rights())
+        let edges = self.edges_after(alloc, heap, reached.as_slice())?;
+        holders_in(alloc, edges.as_slice(), self.rights.rights())
     }
 
     // The rights over the target that the vertex at a place has to give up, if there are any.
@@ -106,7 +106,7 @@ impl Withdrawal {
 
     // Whether the vertex with a name gives the rights up.
     fn is_giver(&self, name: u64) -> bool
-        ensures { result ≡ list_any (λ x. x == name) (names_found self.now.givers.items) }
+        ensures { result ≡ list_any (λ v. v.0 == name) self.now.givers.items }
     {
         self.givers.iter().any(|giver| giver.0 == name)
     }
@@ -115,11 +115,14 @@ impl Withdrawal {
     fn left(&self, from: u64, to: u64, label: Label) -> Option<Label>
         ensures { result ≡ label_of (labels_left (λ _ _. label) self.now.target self.now.rights (names_found self.now.givers.items) from to) }
     {
-        let mut rights = label.rights();
-        if to == self.target && self.is_giver(from) {
-            rights = rights.minus(self.rights.rights());
+        let rights = label.rights();
+        if to != self.target {
+            return Label::new(rights);
         }
-        Label::new(rights)
+        if !self.is_giver(from) {
+            return Label::new(rights);
+        }
+        Label::new(rights.minus(self.rights.rights()))
     }
 
     // Adds the vertices to which edges of a vertex lead that are left. Fails only when out of memory.

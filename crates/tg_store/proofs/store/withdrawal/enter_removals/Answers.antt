@@ -9,7 +9,7 @@ use Rattle.tg_journal.specs.declared.entry.Entry.{Entry}
 use Rattle.tg_journal.specs.History.{IsLegal, graph_after}
 use Rattle.tg_journal.proofs.HistoryLaws.{IsLegal-cut, graph_after-push}
 use Rattle.tg_rows.specs.Content.{IsContent, IsNamed}
-use Rattle.tg_graph.specs.Heap.{content_of}
+use Rattle.tg_graph.specs.Heap.{IsActive, content_of}
 use Rattle.tg_graph.specs.Standing.{IsContentOf}
 use Rattle.tg_graph.proofs.StandingLaws.{StandsFor-served, denial_of-stands}
 use Rattle.tg_subjects.specs.Subjects.{names_of}
@@ -24,7 +24,13 @@ one_more : (old now done : List Entry) (e : Entry) → now ≡ old ++ done → n
 one_more old now done e is = ap (λ es. es ++ e ∷ []) is ∙ append_assoc old done (e ∷ [])
 
 pub worker_place-requires : goal.worker_place-requires
-worker_place-requires g c = ?
+worker_place-requires g c =
+    let e = c.removed-item.result in
+    let active : IsActive c.args.heap.now e.0 = subst (λ (d : ℕ × RightSet). IsActive c.args.heap.now d.0) (sym c.removed-item.is) (c.requires.active c.loop-removed.removed-index e c.loop-removed-test.true) in
+    subst (λ (subjects : List Subject). Contains (names_of subjects) e.0) (sym c.loop-removed.invariant.kept.subjects) active
+
+pub drop_rights-requires : goal.drop_rights-requires
+drop_rights-requires g c = c.worker_place-place.ensures.vertex.object
 
 pub loop-removed-preserved : goal.loop-removed-preserved
 loop-removed-preserved g c =
