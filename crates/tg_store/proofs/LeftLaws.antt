@@ -75,9 +75,10 @@ left_nothing label y rights givers a b none =
 -- who gives up acts
 pub given_by : (label : ℕ → ℕ → RightSet) (y : ℕ) (rights : RightSet) (subjects keep : List ℕ) (e : ℕ × RightSet) → Contains (given_up label y rights (givers_among subjects keep)) e → Contains subjects e.0
 given_by label y rights subjects keep e has =
-    let kept = Contains-from_filter (λ (d : ℕ × RightSet). not (is_none_held d.1)) (map (λ x. (x, common rights (label x y))) (givers_among subjects keep)) e has in
-    let from = Contains-from_map {Y = ℕ × RightSet} (λ x. (x, common rights (label x y))) (givers_among subjects keep) e kept.0 in
-    let acts = Contains-from_filter (λ x. not (list_any (λ k. k == x) keep)) subjects from.0 from.1 in
+    let give : ℕ → ℕ × RightSet = λ x. (x, common rights (label x y)) in
+    let kept = Contains-from_filter (λ (d : ℕ × RightSet). not (is_none_held d.1)) (map give (givers_among subjects keep)) e has in
+    let from = Contains-from_map give (givers_among subjects keep) e kept.0 in
+    let acts = Contains-from_filter (λ (x : ℕ). not (list_any (λ k. k == x) keep)) subjects from.0 from.1 in
     subst (λ (x : ℕ). Contains subjects x) (ap (λ (d : ℕ × RightSet). d.0) from.2) acts.0
 
 -- what the givers hold is the same in both

@@ -71,7 +71,7 @@ none_and : (a : Bool) → (a && false) ≡ false
 none_and true = refl
 none_and false = refl
 
-nothing_shared : (rights : RightSet) → common rights no_rights ≡ no_rights
+pub nothing_shared : (rights : RightSet) → common rights no_rights ≡ no_rights
 nothing_shared rights = λ i. set_where (λ x. none_and (has rights x) i)
 
 none_after : (a b : Bool) → (a && (b && not a)) ≡ false

@@ -23,8 +23,8 @@ use Rattle.tg_store.proofs.store.withdrawal.enter_removals.Goals as goal
 one_more : (old now done : List Entry) (e : Entry) → now ≡ old ++ done → now ++ e ∷ [] ≡ old ++ (done ++ e ∷ [])
 one_more old now done e is = ap (λ es. es ++ e ∷ []) is ∙ append_assoc old done (e ∷ [])
 
-pub worker_place-requires : goal.worker_place-requires
-worker_place-requires g c =
+pub worker_place-place-requires : goal.worker_place-place-requires
+worker_place-place-requires g c =
     let e = c.removed-item.result in
     let active : IsActive c.args.heap.now e.0 = subst (λ (d : ℕ × RightSet). IsActive c.args.heap.now d.0) (sym c.removed-item.is) (c.requires.active c.loop-removed.removed-index e c.loop-removed-test.true) in
     subst (λ (subjects : List Subject). Contains (names_of subjects) e.0) (sym c.loop-removed.invariant.kept.subjects) active

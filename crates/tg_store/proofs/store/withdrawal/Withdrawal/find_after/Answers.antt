@@ -12,9 +12,6 @@ loop-next-init g c = record {
   finds = find_begins (content_left c.args.self.now (content_of c.args.heap.now)) (subject_names c.args.heap.now) c.in_ok-found.found c.in_ok-found.ensures.names;
 }
 
-pub vertex-requires : goal.vertex-requires
-vertex-requires g c = omega (arith, c.count.ensures, c.loop-next-test.true)
-
 pub follow_row-requires-clause-vertex : goal.follow_row-requires-clause-vertex
 follow_row-requires-clause-vertex g c =
     let low : c.loop-next.next < length c.loop-next.found.vertices.items = omega (arith, c.count.ensures, c.loop-next-test.true) in
