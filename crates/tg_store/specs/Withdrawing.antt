@@ -40,12 +40,12 @@ pub record AreHoldersOfSome (g : ProtectionGraph) (rights : RightSet) (y : ℕ) 
   pub each : (x : ℕ) → Contains names x ↔ (IsReachable g x × (is_none_held (common rights (g.label x y)) ≡ false))
 
 -- The rights over the target were withdrawn: exactly these entries were added, and the store represents the graph after them. Those who
--- then hold some of the rights still are the names that are left.
-pub record IsWithdrawn (target : ℕ) (rights : RightSet) (keep : List ℕ) (old new : StoreState) (left : List ℕ) : Type 0 where
+-- then hold some of the rights still are those with the names.
+pub record IsWithdrawn (target : ℕ) (rights : RightSet) (keep : List ℕ) (old new : StoreState) (names : List ℕ) : Type 0 where
   pub entries : new.entries ≡ old.entries ++ withdrawing (graph_of_store old) target rights keep
   pub legal : IsLegal (graph_of_store old) (withdrawing (graph_of_store old) target rights keep)
   pub graph : graph_of_store new ≡ withdrawn (graph_of_store old) target rights keep
-  pub left : AreHoldersOfSome (graph_of_store new) rights target left
+  pub left : AreHoldersOfSome (graph_of_store new) rights target names
   pub opening : new.opening ≡ old.opening
   pub handed : new.handed ≡ old.handed
   pub limits : new.heap.table.limits ≡ old.heap.table.limits

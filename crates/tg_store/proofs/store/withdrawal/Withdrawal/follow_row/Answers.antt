@@ -1,4 +1,4 @@
-use Rattle.std.proofs.Common.{◌≡◌, ◌∙◌, ◌==◌, ◌&&◌, ◌<◌, ◌+◌, ℕ, List, cond, not, refl, sym, ap, subst, arith, get_or, length}
+use Rattle.std.proofs.Common.{◌≡◌, ◌∙◌, ◌==◌, ◌&&◌, ◌<◌, ◌+◌, ℕ, List, cond, not, false, refl, sym, ap, subst, arith, get_or, length}
 use Rattle.std.specs.Prelude.{is_some}
 use Rattle.std.specs.List.{Contains, list_any}
 use Rattle.tg_rights.specs.RightSet.{RightSet, is_none_held, label_of, minus}

@@ -20,8 +20,8 @@ pub loop-subject-init : goal.loop-subject-init
 loop-subject-init g c =
     let h = c.args.heap.now.table.spaces in
     record {
-      names = ap names_found c.new.ensures.items;
-      placed = subst (All (λ (v : ℕ × Place). IsVertexAt h v.0 v.1)) (sym c.new.ensures.items) (All-nil (λ (v : ℕ × Place). IsVertexAt h v.0 v.1));
+      names = ap names_found c.new-givers.ensures.items;
+      placed = subst (All (λ (v : ℕ × Place). IsVertexAt h v.0 v.1)) (sym c.new-givers.ensures.items) (All-nil (λ (v : ℕ × Place). IsVertexAt h v.0 v.1));
     }
 
 pub loop-subject-preserved : goal.loop-subject-preserved
