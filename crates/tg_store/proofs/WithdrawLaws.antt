@@ -1,7 +1,7 @@
 -- What a withdrawal leaves of a graph: its entries are legal and lead to the labels that are left, and rights of which nobody is
 -- reported never come back.
 use mathlib.Core.Bool.{true≢false}
-use Rattle.std.proofs.Common.{◌≡◌, ◌≢◌, ◌⊎◌, inl, inr, ⊎_elim, ℕ, suc, ◌+◌, ◌<◌, ◌==◌, ◌&&◌, ◌||◌, Bool, true, false, cond, not, List, [], ◌∷◌, ◌++◌, get_or, length, map, refl, sym, ap, subst, ◌∙◌, arith}
+use Rattle.std.proofs.Common.{◌≡◌, ◌≢◌, ◌⊎◌, inl, inr, ⊎_elim, ℕ, suc, ◌<◌, ◌==◌, ◌&&◌, ◌||◌, Bool, true, false, cond, not, List, [], ◌∷◌, ◌++◌, get_or, map, refl, sym, ap, subst, ◌∙◌, arith}
 use Rattle.std.specs.List.{AllPairs, Contains, filter, list_any}
 use Rattle.std.proofs.lemmas.Bool.{and_parts, eqb-false, eqb-true, eq-eqb, ne_eqb, or_parts}
 use Rattle.std.proofs.lemmas.List.Folds.{list_any_none}
@@ -9,7 +9,7 @@ use Rattle.std.proofs.lemmas.List.Kept.{AllPairs-from_increasing, IsStrictlyIncr
 use Rattle.tg_rights.specs.RightSet.{RightSet, has, holds_all, is_none_held, minus, no_rights, only, set_where, union}
 use Rattle.tg_rights.specs.declared.Right.{Right}
 use Rattle.tg_rights.specs.declared.Right.TheVariants as right
-use Rattle.tg_rights.proofs.RightLaws.{has-holds_all, has-minus, has-no_rights, has-none_held, has-set_where, has-union, minus-no_rights, none_held-same, some_minus}
+use Rattle.tg_rights.proofs.RightLaws.{has-holds_all, has-minus, has-none_held, has-set_where, has-union, minus-no_rights, none_held-same, some_minus}
 use Rattle.tg_model.specs.declared.command.Command.{Command}
 use Rattle.tg_model.specs.declared.command.Command.TheVariants.{Take, Grant, Remove}
 use Rattle.tg_model.specs.declared.command.Deed.{Deed}
@@ -23,7 +23,7 @@ use Rattle.tg_model.proofs.ReachLaws.{HasEdge-holds, IsReachable-plain, IsReacha
 use Rattle.tg_model.proofs.SoundLaws.{IsSound-step, le-step-made}
 use Rattle.tg_journal.specs.declared.entry.Entry.{Entry}
 use Rattle.tg_journal.specs.History.{IsLegal, IsLegalEntry, graph_after}
-use Rattle.tg_rows.specs.Content.{Content, IsNamed}
+use Rattle.tg_rows.specs.Content.{Content}
 use Rattle.tg_rows.proofs.Members.{Contains-cases, Contains-filter, Contains-from_filter, Contains-here, Contains-more, Contains-none}
 use Rattle.tg_graph.specs.Heap.{content_of, subject_names}
 use Rattle.tg_graph.specs.Standing.{IsContentOf}

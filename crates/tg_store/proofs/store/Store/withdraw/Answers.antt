@@ -1,10 +1,9 @@
 -- What is given up on the heap and entered is what is withdrawn on the graph.
-use Rattle.std.proofs.Common.{◌≡◌, ◌∙◌, ◌++◌, ◌≤◌, ℕ, List, ap, get_or, length, map, refl, subst, sym}
+use Rattle.std.proofs.Common.{◌≡◌, ◌∙◌, ◌++◌, ◌≤◌, ℕ, List, get_or, length, map, refl, subst, sym}
 use Rattle.std.specs.List.{Contains}
 use Rattle.std.proofs.lemmas.List.Elements.{Contains-get_or}
 use Rattle.tg_rights.specs.RightSet.{RightSet}
 use Rattle.tg_model.specs.Graph.{ProtectionGraph}
-use Rattle.tg_journal.specs.declared.entry.Entry.{Entry}
 use Rattle.tg_journal.specs.History.{IsLegal, graph_after}
 use Rattle.tg_rows.specs.Content.{Content}
 use Rattle.tg_graph.specs.Heap.{HeapState, content_of, subject_names}

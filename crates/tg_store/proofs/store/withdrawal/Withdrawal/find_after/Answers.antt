@@ -1,4 +1,4 @@
-use Rattle.std.proofs.Common.{◌≡◌, ◌≤◌, ◌<◌, length, sym, subst, arith, ◌∙◌}
+use Rattle.std.proofs.Common.{◌≤◌, ◌<◌, length, sym, subst, arith, ◌∙◌}
 use Rattle.tg_graph.specs.Heap.{content_of, subject_names}
 use Rattle.tg_store.specs.Inner.Reaching.{AreBelow}
 use Rattle.tg_store.specs.Inner.Withdrawing.{content_left}

@@ -1,14 +1,14 @@
 use Rattle.std.proofs.Common.{◌≡◌, ◌∙◌, ◌==◌, ◌&&◌, ◌<◌, ◌+◌, ℕ, List, cond, not, false, refl, sym, ap, subst, arith, get_or, length}
 use Rattle.std.specs.Prelude.{is_some}
 use Rattle.std.specs.List.{Contains, list_any}
-use Rattle.tg_rights.specs.RightSet.{RightSet, is_none_held, label_of, minus}
+use Rattle.tg_rights.specs.RightSet.{RightSet, is_none_held, minus}
 use Rattle.tg_model.specs.Graph.{HasEdge, listing_of}
 use Rattle.tg_rows.proofs.Listing.{listed_from}
 use Rattle.tg_graph.specs.Heap.{content_of}
 use Rattle.tg_store.specs.Inner.Reaching.{IsFoundIn, names_found}
 use Rattle.tg_store.specs.Inner.Withdrawing.{content_left}
 use Rattle.tg_store.specs.Withdrawing.{labels_left}
-use Rattle.tg_store.proofs.HoldingLaws.{false_not_true, label_there, true_not_false}
+use Rattle.tg_store.proofs.HoldingLaws.{label_there, true_not_false}
 use Rattle.tg_store.proofs.LeftLaws.{FollowsLeft, left_begins, left_found, left_goes, left_skips, not_false_true}
 use Rattle.tg_store.proofs.PictureLaws.{all_below}
 use Rattle.tg_store.proofs.WithdrawLaws.{edge_before}

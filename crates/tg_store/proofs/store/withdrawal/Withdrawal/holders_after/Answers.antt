@@ -1,8 +1,6 @@
-use Rattle.std.proofs.Common.{◌≡◌, ◌∙◌, ℕ, List, ap, subst, sym}
-use Rattle.tg_rights.specs.RightSet.{RightSet}
-use Rattle.tg_word.specs.declared.Place.{Place}
+use Rattle.std.proofs.Common.{◌∙◌, subst, sym}
 use Rattle.tg_graph.specs.Heap.{content_of}
-use Rattle.tg_store.specs.Inner.Reaching.{AreReachedAlong, edges_over, names_sharing}
+use Rattle.tg_store.specs.Inner.Reaching.{AreReachedAlong, names_sharing}
 use Rattle.tg_store.specs.Inner.Withdrawing.{content_left}
 use Rattle.tg_store.proofs.HoldingLaws.{if_ok}
 use Rattle.tg_store.proofs.store.withdrawal.Withdrawal.holders_after.Goals as goal

@@ -1,7 +1,7 @@
 use Rattle.std.proofs.Common.{◌≡◌, ◌∙◌, ◌==◌, ◌&&◌, cond, ap, sym, ℕ}
 use Rattle.std.specs.Prelude.{None}
 use Rattle.std.specs.List.{list_any}
-use Rattle.tg_rights.specs.RightSet.{RightSet, label_of, minus, no_rights}
+use Rattle.tg_rights.specs.RightSet.{RightSet, label_of, minus}
 use Rattle.tg_model.proofs.RowLaws.{labelled, unlabelled}
 use Rattle.tg_graph.specs.Heap.{content_of}
 use Rattle.tg_store.specs.Inner.Reaching.{names_found}

@@ -1,7 +1,7 @@
 use Rattle.std.proofs.Common.{◌≡◌, ◌∙◌, ◌==◌, ◌&&◌, cond, ap, sym}
 use Rattle.std.specs.List.{list_any}
 use Rattle.std.proofs.lemmas.Bool.{eq-eqb, ne_eqb}
-use Rattle.tg_rights.specs.RightSet.{RightSet, label_of, minus}
+use Rattle.tg_rights.specs.RightSet.{label_of, minus}
 use Rattle.tg_store.specs.Inner.Reaching.{names_found}
 use Rattle.tg_store.proofs.LeftLaws.{any_found, not_both}
 use Rattle.tg_store.proofs.store.withdrawal.Withdrawal.left.Goals as goal
