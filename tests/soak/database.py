@@ -258,6 +258,7 @@ def main():
         words.add_argument(f"--{name}", type=int, default=count, metavar="N")
     words.add_argument("--sqlite", action="store_true")
     given = words.parse_args()
+    sys.stdout.reconfigure(line_buffering=True)
     rng, folder = random.Random(given.seed), Path(tempfile.mkdtemp(prefix="kovshenul-"))
     try:
         over_sqlite(given, rng, folder)

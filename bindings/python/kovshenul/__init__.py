@@ -1,4 +1,4 @@
-"""Kovshenul for Python: an object store with take-grant access control, through its shared library.
+"""Kovshenul for Python: a reference monitor with take-grant rules, through its shared library.
 
     with Store([Cell(0), Cell(0)], [(0, 1, GRANT)], Limits(10, 8, 4)) as store:
         document = store.create(0, READ | WRITE, Sum(40))

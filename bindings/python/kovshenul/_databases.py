@@ -279,13 +279,10 @@ class Postgres(Database):
             raise BadSettings("synchronous_standby_names is empty, so no COMMIT waits for a standby: name a standby")
 
     def commit(self) -> None:
-        if not self.connection.autocommit:
+        if self.connection.autocommit:
+            self.run("COMMIT")
+        else:
             self.connection.commit()
-            return
-        cursor = self.cursor()
-        cursor.execute("COMMIT")
-        if cursor.statusmessage != "COMMIT":
-            raise Ended("PostgreSQL rolled the transaction back instead of committing it")
 
     def roll_back(self) -> None:
         if not self.connection.autocommit:

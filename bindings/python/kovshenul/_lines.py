@@ -59,12 +59,10 @@ DEEDS: Dict[str, Tuple[Callable[..., Deed], Dict[str, Reader]]] = {
 def words_of(line: str) -> Dict[str, str]:
     """The words of a line under the names of their columns: `worker`, `deed` and `reply`, and those of `via`, `target`,
     `rights` and `value` that the deed has. It raises a ValueError or a LookupError if the line has other words."""
-    asked, separator, reply = line.partition(" = ")
+    asked, _, reply = line.partition(" = ")
     worker, deed, *rest = asked.split(" ")
-    words = dict(zip(DEEDS[deed][1], rest, strict=True))
-    if not separator:
-        raise ValueError
-    return {"worker": worker, "deed": deed, **words, "reply": reply}
+    words = zip(DEEDS[deed][1], rest, strict=True)
+    return {"worker": worker, "deed": deed, **dict(words), "reply": reply}
 
 
 def entry_of_line(line: str) -> Entry:

@@ -146,19 +146,19 @@ def _entry_of(place: int, row: Row) -> Entry:
     """The entry of a row, which has the place."""
     at, *columns, line = row
     if at != str(place):
-        raise _refused(BadPlace, place, "the table has no row of this place")
+        raise refused_at(BadPlace, place, "the table has no row of this place")
     try:
         entry = entry_of_line(line or "")
     except BadValues as error:
-        raise _refused(BadEntry, place, error.text) from None
+        raise refused_at(BadEntry, place, error.text) from None
     words = words_of(line or "")
     for name, column in zip(WORDS, columns):
         if column != words.get(name):
-            raise _refused(BadEntry, place, f"the column {name} is {column!r}, and the line is {line!r}")
+            raise refused_at(BadEntry, place, f"the column {name} is {column!r}, and the line is {line!r}")
     return entry
 
 
-def _refused(kind: Type[Refused], place: int, text: str) -> Refused:
+def refused_at(kind: Type[Refused], place: int, text: str) -> Refused:
     """A refusal for the row of a place."""
     refused = kind(text=text)
     refused.at = place

@@ -31,7 +31,7 @@ from ._auditor import Auditor
 from ._databases import BadSettings, Database, InTransaction, database_of
 from ._guarded import NoTransaction, Store
 from ._refusals import BadPlace, Error, NotOpen
-from ._tables import CHUNK, BadTables, Head, Last, Tables
+from ._tables import CHUNK, BadTables, Head, Last, Tables, refused_at
 from ._values import Limits, Rights, Value
 from ._view import View
 from .journal import Done, Entry, Name
@@ -60,14 +60,14 @@ class Lost(Error):
 
 
 class Fenced(Error):
-    """Another writer made entries in the table. The journal closed its store, and raises Fenced from then on. Who wants to write
-    again makes a new Journal."""
+    """Another writer made entries in the table. The journal closed its store, and raises Fenced from then on. To write again, make
+    a new Journal."""
 
 
 class Older(Error):
     """The table lacks an entry that was committed: it is an older copy, or that of a standby that didn't have the entry yet.
-    Rights that were given up may be back. The journal raises Older from then on. Who wants to go on from the older history
-    makes a new Journal."""
+    Rights that were given up may be back. The journal raises Older from then on. To go on from the older history, make a new
+    Journal."""
 
 
 def _take_all(tables: Tables, store: Optional[Store] = None, limits: Optional[Limits] = None) -> Store:
@@ -270,7 +270,7 @@ class Journal:
                 raise self._stop(Older(f"the table lacks the entry {last.entries - 1}, which was committed: {last.line!r}"))
         line = self._tables.line(entries - 1)
         if line is None and entries > 0:
-            raise BadPlace(text=f"the table has no row of the place {entries - 1}")
+            raise refused_at(BadPlace, entries - 1, "the table has no row of this place")
         return Last(entries, line)
 
     def _feed(self, store: Store, auditor: Auditor, first: int, upto: Optional[int]) -> bool:

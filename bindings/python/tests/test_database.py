@@ -268,6 +268,14 @@ class Cases:
             self.insert(cursor)
         self.assertEqual((self.hosts(), len(self.lines())), (1, 4))
 
+    def test_a_body_that_raises_after_a_create(self):
+        store, _ = self.with_three_entries()
+        with self.assertRaises(KeyError), self.journal.transaction():
+            store.create(0, READ, Cell(0))
+            raise KeyError
+        self.assertTrue(store.closed)
+        self.assertEqual(self.journal.resume().entries(), 3)
+
     def test_an_interrupted_body(self):
         store, note = self.with_three_entries()
         with self.assertRaises(KeyboardInterrupt), self.journal.transaction():
@@ -399,6 +407,12 @@ class Cases:
         calls = {name for name in dir(Store) if not name.startswith("_")}
         self.assertEqual(calls, {*plain, *_guarded.COMMANDS, *_guarded.QUESTIONS, "forget", "go_on"})
 
+    def test_an_entry_of_no_transaction(self):
+        store, note = self.with_three_entries()
+        Store.write(store, 0, note, 1)
+        self.assertRaises(Lost, self.journal.transaction().__enter__)
+        self.assertEqual(self.journal.resume().entries(), 3)
+
     def test_another_thread(self):
         store, note = self.with_three_entries()
         raised = []
@@ -450,7 +464,16 @@ class Cases:
             self.assertRaises(Fenced, self.journal.resume)
             with other.transaction():
                 other.store.write(0, note, 8)
-        self.assertEqual(Journal(self.connection).resume().entries(), 5)
+        self.run_in(self.connection, "DELETE FROM kovshenul_entry WHERE place > 2")
+        self.assertRaises(Fenced, self.journal.resume)
+        self.assertEqual(Journal(self.connection).resume().entries(), 3)
+
+    def test_another_history_of_the_same_length(self):
+        store, note = self.with_three_entries()
+        words = "deed = 'read', value = NULL, reply = 'ok 0', line = '0 read 2 = ok 0'"
+        self.run_in(self.connection, f"UPDATE kovshenul_entry SET {words} WHERE place = 2")
+        self.assertRaises(Older, Journal(self.connected()).resume, last=self.journal.last)
+        self.assertRaises(Fenced, self.journal.transaction().__enter__)
 
     # ---- what is in the tables
 
@@ -529,6 +552,14 @@ class Cases:
                 call()
             self.assertEqual(caught.exception.at, 1)
 
+    def test_a_table_without_its_last_row(self):
+        self.with_three_entries()
+        self.journal.prune()
+        self.run_in(self.connection, "DELETE FROM kovshenul_entry")
+        with self.assertRaises(BadPlace) as caught:
+            Journal(self.connected()).resume()
+        self.assertEqual(caught.exception.at, 2)
+
     def test_an_older_table_is_noticed(self):
         store, note = self.with_three_entries()
         last = self.journal.last
@@ -569,6 +600,24 @@ class Cases:
         self.agree(Journal(self.connected()).resume(last=self.journal.last), store)
         self.assertEqual(Journal(self.connected()).resume(last=Last(2, "pruned")).entries(), 6)
         self.assertEqual((self.journal.prune(), self.journal.prune(), self.journal.prune(0)), (6, 6, 6))
+
+    def test_a_prune_in_the_middle_of_a_read(self):
+        """The read sees the tables of one moment, so no row is missing."""
+        store, note = self.with_three_entries()
+        follower, pruning = Follower(self.connected()), Journal(self.connected())
+        with self.journal.transaction():
+            store.write(0, note, 1)
+            store.write(0, note, 2)
+        real, pruned = follower._tables.first, []
+
+        def first():
+            place = real()
+            pruned.append(pruning.prune())
+            return place
+
+        with mock.patch.object(follower._tables, "first", first):
+            self.assertEqual(follower.follow(), 5)
+        self.assertEqual((pruned[0], follower.label(1, note)), (5, READ))
 
     def test_two_prune_at_a_time(self):
         store, note = self.with_three_entries()
@@ -663,6 +712,7 @@ class OverSqlite(Cases, unittest.TestCase):
     def test_settings_that_change_later(self):
         store, note = self.with_three_entries()
         self.connection.execute("PRAGMA synchronous=NORMAL")
+        self.assertRaises(BadSettings, self.journal.open, *OPENING)
         self.assertRaises(BadSettings, self.journal.transaction().__enter__)
         self.assertRaises(BadSettings, self.journal.prune)
         self.connection.execute("PRAGMA synchronous=FULL")
@@ -845,7 +895,7 @@ class OverPostgres(Cases, unittest.TestCase):
 
     def test_a_statement_that_failed_in_the_body(self):
         store, note = self.with_three_entries()
-        with self.assertRaises(Lost), self.journal.transaction() as cursor:
+        with self.assertRaisesRegex(Lost, "a statement of the transaction failed"), self.journal.transaction() as cursor:
             self.insert(cursor)
             try:
                 cursor.execute("SELECT * FROM nothing")

@@ -1,4 +1,4 @@
-//! Kovshenul for Rust: an object store with take-grant access control, over the C library, with no crates beside it.
+//! Kovshenul for Rust: a reference monitor with take-grant rules, over the C library, with no crates beside it.
 //!
 //! ```
 //! use kovshenul::{Edge, Error, Limits, Rights, Store, Value};

@@ -78,6 +78,7 @@ impl NumberSet {
     }
 
     /// Makes the bit of a place after all that have one, or answers that there would be too many. Nothing else changes.
+    #[inline(always)]
     pub(crate) fn lengthen(&mut self, place: usize) -> Result<(), AllocError>
         requires { place ≤ 64 * length self.old }
         ensures room { OnOk result (place < 64 * length self.new) }

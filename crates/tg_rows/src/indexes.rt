@@ -130,6 +130,7 @@ impl LongRows {
 
     /// Makes room for one more name and one more cell in the index at this place. It is the index of the row of the
     /// vertex with a name. The index is among those of rows that may have young cells.
+    #[inline(always)]
     pub(crate) fn reserve_at(&mut self, name: u64, at: usize) -> Result<(), AllocError>
         requires there { HasIndexAt self.old.entries name at }
         requires young { self.old.old_rows ≤ at }
