@@ -24,6 +24,9 @@ tg_status proved_tg_inspect(tg_store *store, uint64_t worker, uint64_t target, t
 tg_status proved_tg_names(tg_store *store, uint64_t *names, size_t room, uint64_t *count);
 tg_status proved_tg_subjects(tg_store *store, uint64_t *names, size_t room, uint64_t *count);
 tg_status proved_tg_who_holds(tg_store *store, uint64_t right, uint64_t name, uint64_t *names, size_t room, uint64_t *count);
+tg_status proved_tg_edges_to(tg_store *store, uint64_t name, tg_target *edges, size_t room, uint64_t *count);
+tg_status proved_tg_withdraw(tg_store *store, uint64_t target, uint64_t rights, const uint64_t *keep, size_t keep_count,
+                             uint64_t *names, size_t room, uint64_t *count);
 tg_status proved_tg_entry(tg_store *store, uint64_t at, tg_record *out, uint64_t *numbers, size_t number_room, tg_target *edges,
                           size_t edge_room);
 
@@ -134,6 +137,23 @@ tg_status tg_who_holds(tg_store *store, uint64_t right, uint64_t name, uint64_t 
     if (names == NULL && room == 0)
         names = &none;
     return proved_tg_who_holds(store, right, name, names, room, count);
+}
+
+tg_status tg_edges_to(tg_store *store, uint64_t name, tg_target *edges, size_t room, uint64_t *count) {
+    tg_target none;
+    if (edges == NULL && room == 0)
+        edges = &none;
+    return proved_tg_edges_to(store, name, edges, room, count);
+}
+
+tg_status tg_withdraw(tg_store *store, uint64_t target, uint64_t rights, const uint64_t *keep, size_t keep_count, uint64_t *names,
+                      size_t room, uint64_t *count) {
+    uint64_t none;
+    if (keep == NULL && keep_count == 0)
+        keep = nothing;
+    if (names == NULL && room == 0)
+        names = &none;
+    return proved_tg_withdraw(store, target, rights, keep, keep_count, names, room, count);
 }
 
 tg_status tg_entry(tg_store *store, uint64_t at, tg_record *out, uint64_t *numbers, size_t number_room, tg_target *edges,

@@ -343,6 +343,28 @@ tg_status tg_leave(tg_store *store, uint64_t worker, uint64_t *count);
    comes if it isn't one right. */
 tg_status tg_who_holds(tg_store *store, uint64_t right, uint64_t name, uint64_t *names, size_t room, uint64_t *count);
 
+/* Lists the edges to the vertex with this name, of all vertices that a worker reaches, by rising name of the vertex from which each
+   leads. In each, `to` is this vertex, and the rights are those that it holds over the one that is asked about. The first `room` of
+   them go to edges. How many there are goes to *count. A vertex that was never made has no edge. The journal gets no entry. Time and
+   memory follow what the workers reach. So a host finds who holds on to a worker that left. */
+tg_status tg_edges_to(tg_store *store, uint64_t name, tg_target *edges, size_t room, uint64_t *count);
+
+/* Withdraws rights over a target. Each worker with a name outside of `keep` removes what it holds of the rights. Each remove has
+   an entry, as if the worker had asked for it, and the entries come by rising name. Afterwards no worker outside of `keep` holds
+   any of the rights over the target, and all other labels are as they were. The call is done whole or not at all.
+
+   Those who still hold some of the rights are reported, by rising name: kept workers, objects, and workers that retired, of all
+   that the workers then reach. The first `room` of their names go to names. How many there are goes to *count. If there are more,
+   call again with more room: the second call removes nothing, has no entry, and reports the same. If nobody is reported and the
+   target was made, no vertex that a worker reaches ever holds one of the rights over the target again. Otherwise a worker may take
+   a right back from one who is reported, and tg_could says which worker could. Without `keep` the target may be reached by nobody,
+   and then the next full collection frees it.
+
+   A name in `keep` that isn't a worker's is ignored. From a target that was never made nothing is removed, and *count is 0. The
+   call is refused in this order: TG_BAD_RIGHTS, TG_NOT_OPEN, TG_OUT_OF_MEMORY. The store is then as it was. */
+tg_status tg_withdraw(tg_store *store, uint64_t target, uint64_t rights, const uint64_t *keep, size_t keep_count, uint64_t *names,
+                      size_t room, uint64_t *count);
+
 /* Lists the names of the workers, by rising name. The first `room` of them go to names. How many there are, at most 64, goes to
    *count. The journal gets no entry, and no memory is taken. */
 tg_status tg_subjects(tg_store *store, uint64_t *names, size_t room, uint64_t *count);

@@ -1,5 +1,5 @@
 """What hosts do with a store, one function for each recipe of docs/RECIPES.md, and a run of them."""
-from kovshenul import FULL, GRANT, INSPECT, READ, TAKE, WRITE, Auditor, Cell, Denied, Refused, Store, outlook
+from kovshenul import FULL, GRANT, INSPECT, READ, TAKE, WRITE, Auditor, Cell, Denied, Refused, Rights, Store, outlook
 
 HOST = 0
 
@@ -9,6 +9,15 @@ def take_back(store, holder, target, rights):
     held = store.label(holder, target) & rights
     if held:
         store.remove(holder, target, held)
+
+
+def take_back_from_all(store, target, rights):
+    """Withdraws the rights from all but the host. Returns each subject that could get one of them again, with the right."""
+    if store.withdraw(target, rights, keep=[HOST]) == []:
+        return []
+    others = [subject for subject in store.subjects() if subject != HOST]
+    asked = [(subject, right) for subject in others for right in Rights if right & rights]
+    return [(subject, right) for subject, right in asked if store.could(subject, right, target, silent=[HOST]) != outlook.Never()]
 
 
 def grant_if_safe(store, receiver, target, rights, guarded):
@@ -100,6 +109,22 @@ def run_of_users(store):
     show("came back", store.read(user, letter))
 
 
+def run_of_a_team(store):
+    """Readers of a document, one of whom has parked what it holds."""
+    document = store.create(HOST, READ | WRITE, Cell(3))
+    readers = [store.spawn(HOST, TAKE | GRANT, Cell(0)) for _ in range(3)]
+    for reader in readers:
+        store.grant(HOST, reader, document, READ)
+    folder = store.create(readers[2], TAKE | GRANT, Cell(0))
+    store.grant(readers[2], folder, document, READ)
+    show("could get it again", [(readers.index(it), right.letters) for it, right in take_back_from_all(store, document, READ)])
+    show("who holds on", [(edge.source == HOST, edge.rights.letters) for edge in store.edges_to(document)])
+    store.remove(readers[2], folder, TAKE)
+    show("could get it again", take_back_from_all(store, document, READ))
+    for reader in readers:
+        end(store, reader)
+
+
 class Lines:
     """A file that counts the lines that are written to it."""
 
@@ -114,6 +139,7 @@ OPENING = [Cell(0)], []
 with Store(*OPENING) as store, Auditor(*OPENING) as auditor:
     run_of_plugins(store)
     run_of_users(store)
+    run_of_a_team(store)
     file = Lines()
     archive(store, auditor, file)
     show("entries written, audited, left", (file.count, auditor.at, store.entries() - store.first()))

@@ -172,6 +172,14 @@ static uint64_t tell_story(void) {
     CALL(tg_create(&store, name, TG_READ, &kinds[3], &count));
     const tg_handing handing = { 0, 1, name, 2, TG_READ };
     CALL(tg_hand(&store, &handing, &count, &why));
+    const uint64_t keep[1] = { 0 };
+    CALL(tg_withdraw(&store, 2, TG_READ, keep, 1, numbers, 64, &count));
+    if (count != 1 || numbers[0] != 0)
+        stop(__LINE__, 0);
+    tg_target holders[8];
+    CALL(tg_edges_to(&store, 2, holders, 8, &count));
+    if (count != 1 || holders[0].to != 0)
+        stop(__LINE__, 0);
     long before = made;
     CALL(tg_subjects(&store, numbers, 64, &count));
     if (count != 3 || made != before)

@@ -427,6 +427,7 @@ static void take_or_grant(struct run *run, int grants) {
 /* Writes the line of a command that was done in one call with others. */
 static void put_done(struct run *run) {
     fprintf(run->script, "%s\n", run->line);
+    run->answered++;
     fputs("ok\n", run->replies);
 }
 
@@ -456,6 +457,29 @@ static void hand_some(struct run *run) {
         return;
     say(run, "%" PRIu64 " remove %" PRIu64 " %s", x, it.target, letters(removed, text));
     put_done(run);
+}
+
+/* Rights are withdrawn from all workers but two at most. The script has the remove of each who held some of them. */
+static void withdraw_some(struct run *run) {
+    const uint64_t target = name_of_some(run), rights = rights_of_some(run), keep[2] = { one_who_asks(run), name_of_some(run) };
+    const size_t kept = below(run, 3);
+    uint64_t names[MOST_WORKERS], held[MOST_WORKERS], count = 0, left = UNTOUCHED;
+    char text[RIGHTS + 1];
+    tg_store *store = store_of(run);
+    want(run, tg_subjects(store, names, MOST_WORKERS, &count) == TG_DONE, "the workers");
+    for (uint64_t i = 0; i < count; i++)
+        want(run, tg_label(store, names[i], target, &held[i]) == TG_DONE, "a label");
+    const long before = refused;
+    const tg_status status = tg_withdraw(store, target, rights, keep, kept, NULL, 0, &left);
+    want(run, status == TG_DONE || (status == TG_OUT_OF_MEMORY && refused > before && left == UNTOUCHED), "a withdrawal");
+    run->refused_memory += status == TG_OUT_OF_MEMORY;
+    for (uint64_t i = 0; status == TG_DONE && i < count; i++) {
+        const int is_kept = (kept > 0 && names[i] == keep[0]) || (kept > 1 && names[i] == keep[1]);
+        if ((held[i] & rights) == 0 || is_kept)
+            continue;
+        say(run, "%" PRIu64 " remove %" PRIu64 " %s", names[i], target, letters(held[i] & rights, text));
+        put_done(run);
+    }
 }
 
 static void give_up(struct run *run) {
@@ -694,6 +718,8 @@ static void command(struct run *run) {
         take_or_grant(run, which % 2 == 0);
     else if (which < 620)
         hand_some(run);
+    else if (which < 625)
+        withdraw_some(run);
     else if (which < 700)
         give_up(run);
     else if (which < 800)

@@ -518,7 +518,9 @@ static void a_worker_leaves(void) {
     tg_store store = TG_STORE_INIT;
     tg_record entry;
     uint64_t client, document, names[4] = { UNTOUCHED, UNTOUCHED, UNTOUCHED, UNTOUCHED }, count = UNTOUCHED, entries;
+    tg_target to[4] = { { UNTOUCHED, 0 }, { UNTOUCHED, 0 }, { UNTOUCHED, 0 }, { UNTOUCHED, 0 } };
     WANT(tg_leave(&store, 0, &count) == TG_NOT_OPEN && tg_who_holds(&store, TG_READ, 0, names, 4, &count) == TG_NOT_OPEN);
+    WANT(tg_edges_to(&store, 0, to, 4, &count) == TG_NOT_OPEN && count == UNTOUCHED && to[0].to == UNTOUCHED);
     WANT(tg_open(&store, workers, 2, edges, 2, &limits) == TG_DONE);
     WANT(tg_spawn(&store, 0, TG_GRANT | TG_TAKE, &sum, &client) == TG_DONE);
     WANT(tg_create(&store, client, TG_READ | TG_WRITE, &sum, &document) == TG_DONE);
@@ -527,6 +529,11 @@ static void a_worker_leaves(void) {
     WANT(names[0] == 0 && names[1] == client && names[2] == UNTOUCHED);
     WANT(tg_who_holds(&store, TG_WRITE, document, NULL, 0, &count) == TG_DONE && count == 1);
     WANT(tg_who_holds(&store, TG_WRITE, document + 1, names, 4, &count) == TG_DONE && count == 0);
+    count = UNTOUCHED;
+    WANT(tg_edges_to(&store, document, to, 4, &count) == TG_DONE && count == 2 && to[0].to == 0 && to[0].rights == TG_READ);
+    WANT(to[1].to == client && to[1].rights == (TG_READ | TG_WRITE) && to[2].to == UNTOUCHED);
+    WANT(tg_edges_to(&store, document, NULL, 0, &count) == TG_DONE && count == 2);
+    WANT(tg_edges_to(&store, document + 1, to, 4, &count) == TG_DONE && count == 0);
     count = UNTOUCHED;
     WANT(tg_who_holds(&store, 0, document, names, 4, &count) == TG_BAD_RIGHTS);
     WANT(tg_who_holds(&store, TG_READ | TG_WRITE, document, names, 4, &count) == TG_BAD_RIGHTS && count == UNTOUCHED);
@@ -608,6 +615,50 @@ static void rights_are_handed_on(void) {
     hand.via = owner;
     WANT(tg_hand(&store, &hand, &removed, &why) == TG_NO_SUCH_WORKER && entries_of(&store) == 25);
     WANT(tg_audit(&store, &count) == TG_DONE && count == 25);
+    WANT(tg_close(&store) == TG_DONE);
+}
+
+/* Rights are withdrawn: each worker outside of those to keep has a remove, by rising name, and who still holds some is reported. */
+static void rights_are_withdrawn(void) {
+    tg_store store = TG_STORE_INIT;
+    tg_record entry;
+    uint64_t document, folder, readers[3], names[4] = { UNTOUCHED, UNTOUCHED, UNTOUCHED, UNTOUCHED }, count = UNTOUCHED, rights;
+    const uint64_t keep[3] = { 0, 99, UINT64_MAX };
+    WANT(tg_withdraw(&store, 0, 0, NULL, 0, names, 4, &count) == TG_BAD_RIGHTS);
+    WANT(tg_withdraw(&store, 0, 256, NULL, 0, names, 4, &count) == TG_BAD_RIGHTS);
+    WANT(tg_withdraw(&store, 0, TG_READ, NULL, 0, names, 4, &count) == TG_NOT_OPEN && count == UNTOUCHED);
+    WANT(tg_open(&store, workers, 1, NULL, 0, &limits) == TG_DONE);
+    WANT(tg_create(&store, 0, TG_READ | TG_WRITE, &sum, &document) == TG_DONE);
+    for (int i = 0; i < 3; i++) {
+        WANT(tg_spawn(&store, 0, TG_GRANT | TG_TAKE, &sum, &readers[i]) == TG_DONE);
+        WANT(tg_grant(&store, 0, readers[i], document, i == 1 ? TG_READ | TG_WRITE : TG_READ, &why) == TG_DONE);
+    }
+    WANT(tg_create(&store, 0, TG_GRANT | TG_TAKE, &sum, &folder) == TG_DONE);
+    WANT(tg_grant(&store, 0, folder, document, TG_WRITE, &why) == TG_DONE);
+    WANT(tg_retire(&store, readers[2]) == TG_DONE);
+    const uint64_t before = entries_of(&store);
+    /* What isn't held, and what was never made, changes nothing. */
+    WANT(tg_withdraw(&store, document, TG_APPEND, NULL, 0, names, 4, &count) == TG_DONE && count == 0);
+    WANT(tg_withdraw(&store, 999, TG_READ, keep, 3, names, 4, &count) == TG_DONE && count == 0);
+    WANT(entries_of(&store) == before && names[0] == UNTOUCHED);
+    WANT(tg_withdraw(&store, document, TG_READ | TG_WRITE, keep, 3, names, 4, &count) == TG_DONE && count == 3);
+    WANT(names[0] == 0 && names[1] == readers[2] && names[2] == folder && names[3] == UNTOUCHED);
+    WANT(entries_of(&store) == before + 2);
+    for (uint64_t i = 0; i < 2; i++) {
+        WANT(tg_entry(&store, before + i, &entry, NULL, 0, NULL, 0) == TG_DONE && entry.worker == readers[i]);
+        WANT(entry.deed == TG_DEED_REMOVE && entry.target == document && entry.rights == (i == 1 ? TG_READ | TG_WRITE : TG_READ));
+        WANT(tg_label(&store, readers[i], document, &rights) == TG_DONE && rights == 0);
+    }
+    WANT(tg_label(&store, 0, document, &rights) == TG_DONE && rights == (TG_READ | TG_WRITE));
+    /* It comes back from one who was reported. */
+    WANT(tg_take(&store, 0, readers[2], document, TG_READ, &why) == TG_DONE);
+    /* The document is still reached through the retired worker and the folder. A second call reports the same. */
+    WANT(tg_withdraw(&store, document, TG_READ | TG_WRITE, NULL, 0, names, 1, &count) == TG_DONE && count == 2 && names[0] == readers[2]);
+    const uint64_t after = entries_of(&store);
+    WANT(tg_withdraw(&store, document, TG_READ | TG_WRITE, NULL, 0, names, 2, &count) == TG_DONE && count == 2 && names[1] == folder);
+    WANT(entries_of(&store) == after && tg_audit(&store, &count) == TG_DONE && count == after);
+    WANT(tg_remove(&store, 0, folder, TG_GRANT | TG_TAKE, &why) == TG_DONE);
+    WANT(tg_withdraw(&store, document, TG_WRITE, NULL, 0, NULL, 0, &count) == TG_DONE && count == 0);
     WANT(tg_close(&store) == TG_DONE);
 }
 
@@ -1724,6 +1775,7 @@ int main(void) {
     names_wanting();
     a_worker_leaves();
     rights_are_handed_on();
+    rights_are_withdrawn();
     three_leave();
     entries_forgotten();
     parts_audited();

@@ -84,6 +84,10 @@ PLACES = {
         ["match written Ok(()) Err(WriteFailed)"],
         "what was written lies in memory, and writing fails for want of it alone",
     ),
+    ("tg_kept/src/lines.rt", "add_said"): (
+        ["match write_said Ok(()) Err(WriteFailed)"],
+        "the line is written to memory, which fails for want of it alone",
+    ),
     ("tg_c/src/text.rt", "bytes_named"): (
         ["match written Ok(()) Err(WriteFailed)"],
         "what was written lies in memory, and writing fails for want of it alone",

@@ -19,8 +19,9 @@
 /* The functions of the library, without tg_ before them. */
 #define EACH_CALL(DO) \
     DO(open) DO(close) DO(take) DO(grant) DO(remove) DO(hand) DO(write) DO(append) DO(create) DO(spawn) DO(retire) \
-    DO(leave) DO(who_holds) DO(subjects) DO(read) DO(list) DO(inspect) DO(label) DO(collect) DO(census) DO(names) DO(entries) \
-    DO(first) DO(entry) DO(forget) DO(resume) DO(reopen) DO(apply_all) DO(audit) DO(auditor_open) DO(auditor_feed) DO(auditor_at) DO(auditor_forget) \
+    DO(leave) DO(withdraw) DO(who_holds) DO(edges_to) DO(subjects) DO(read) DO(list) DO(inspect) DO(label) DO(collect) DO(census) \
+    DO(names) DO(entries) DO(first) DO(entry) DO(forget) DO(resume) DO(reopen) DO(apply_all) DO(audit) DO(auditor_open) \
+    DO(auditor_feed) DO(auditor_at) DO(auditor_forget) \
     DO(auditor_sweep) DO(auditor_close) DO(auditor_snapshot) DO(auditor_reopen) DO(snapshot_text) DO(snapshot_read) \
     DO(snapshot_close) DO(could) DO(answer_kind) DO(answer_names) DO(answer_turns) DO(answer_turn) \
     DO(answer_close) DO(view_open) DO(view_could) DO(view_close)
@@ -160,6 +161,8 @@ PyObject *store_entry(PyObject *it, PyObject *const *words, Py_ssize_t count);
 PyObject *store_apply_all(PyObject *it, PyObject *const *words, Py_ssize_t count);
 PyObject *store_names(PyObject *it, PyObject *unused);
 PyObject *store_who_holds(PyObject *it, PyObject *const *words, Py_ssize_t count);
+PyObject *store_edges_to(PyObject *it, PyObject *const *words, Py_ssize_t count);
+PyObject *store_withdraw(PyObject *it, PyObject *const *words, Py_ssize_t count);
 PyObject *store_could(PyObject *it, PyObject *const *words, Py_ssize_t count);
 
 /* ---- store.c, auditor.c, view.c: the types. */

@@ -108,9 +108,25 @@ PyObject *store_names(PyObject *it, PyObject *unused) {
     return told;
 }
 
-/* Asks who holds a right, with room for each vertex of the heap: one walk of the graph finds all of them. It runs without the
-   interpreter. The names are the caller's to free. */
-static tg_status ask_holders(struct store *self, const uint64_t *asked, uint64_t **names, uint64_t *count) {
+/* What is asked for names of vertices: who holds a right over a vertex, or who still holds some rights once they are withdrawn from
+   all but those to keep. */
+struct holders {
+    bool withdraws;
+    uint64_t words[2];
+    const void *keep;
+    size_t keep_count;
+};
+
+static tg_status ask_once(struct store *self, const struct holders *asked, uint64_t *names, size_t room, uint64_t *count) {
+    const struct library *library = &self->state->library;
+    if (asked->withdraws)
+        return library->withdraw(&self->place, asked->words[0], asked->words[1], asked->keep, asked->keep_count, names, room, count);
+    return library->who_holds(&self->place, asked->words[0], asked->words[1], names, room, count);
+}
+
+/* Asks with room for each vertex of the heap: one walk of the graph finds all of them. The call may be made twice. It runs without
+   the interpreter. The names are the caller's to free. */
+static tg_status ask_holders(struct store *self, const struct holders *asked, uint64_t **names, uint64_t *count) {
     const struct library *library = &self->state->library;
     tg_counts counts;
     uint64_t room = library->census(&self->place, &counts) == TG_DONE ? counts.vertices : 0;
@@ -119,23 +135,73 @@ static tg_status ask_holders(struct store *self, const uint64_t *asked, uint64_t
         *names = room < SIZE_MAX / sizeof **names ? malloc((size_t)(room + 1) * sizeof **names) : NULL;
         if (*names == NULL)
             return TG_OUT_OF_MEMORY;
-        tg_status status = library->who_holds(&self->place, asked[0], asked[1], *names, (size_t)room, count);
+        tg_status status = ask_once(self, asked, *names, (size_t)room, count);
         if (status != TG_DONE || *count <= room)
             return status;
         room = *count;
     }
 }
 
-PyObject *store_who_holds(PyObject *it, PyObject *const *words, Py_ssize_t count) {
-    struct store *self = (struct store *)it;
+/* The names, or the refusal of a question about this right. */
+static PyObject *holders_told(struct store *self, const struct holders *asked, const uint64_t *right) {
     struct state *state = self->state;
-    uint64_t asked[2], held = 0, *names = NULL;
-    if (!numbers_of(state, words, count, asked, 2) || !begin_long(state))
+    uint64_t held = 0, *names = NULL;
+    if (!begin_long(state))
         return NULL;
     tg_status status = ask_holders(self, asked, &names, &held);
     PyObject *told = NULL;
     if (end_long(state))
-        told = status == TG_DONE ? numbers_told(names, held) : refused(state, status, NULL, &asked[0]);
+        told = status == TG_DONE ? numbers_told(names, held) : refused(state, status, NULL, right);
     free(names);
+    return told;
+}
+
+PyObject *store_who_holds(PyObject *it, PyObject *const *words, Py_ssize_t count) {
+    struct store *self = (struct store *)it;
+    struct holders asked = { .withdraws = false };
+    if (!numbers_of(self->state, words, count, asked.words, 2))
+        return NULL;
+    return holders_told(self, &asked, &asked.words[0]);
+}
+
+PyObject *store_withdraw(PyObject *it, PyObject *const *words, Py_ssize_t count) {
+    struct store *self = (struct store *)it;
+    struct holders asked = { .withdraws = true };
+    if (!has_words(count, 3) || !numbers_of(self->state, words, 2, asked.words, 2) ||
+        !items_of(words[2], sizeof(uint64_t), &asked.keep, &asked.keep_count))
+        return NULL;
+    return holders_told(self, &asked, NULL);
+}
+
+/* Asks for the edges to a vertex, with room for one from each vertex of the heap. It runs without the interpreter. The edges are
+   the caller's to free. */
+static tg_status ask_edges(struct store *self, uint64_t name, tg_target **edges, uint64_t *count) {
+    const struct library *library = &self->state->library;
+    tg_counts counts;
+    uint64_t room = library->census(&self->place, &counts) == TG_DONE ? counts.vertices : 0;
+    for (;;) {
+        free(*edges);
+        *edges = room < SIZE_MAX / sizeof **edges ? malloc((size_t)(room + 1) * sizeof **edges) : NULL;
+        if (*edges == NULL)
+            return TG_OUT_OF_MEMORY;
+        tg_status status = library->edges_to(&self->place, name, *edges, (size_t)room, count);
+        if (status != TG_DONE || *count <= room)
+            return status;
+        room = *count;
+    }
+}
+
+PyObject *store_edges_to(PyObject *it, PyObject *const *words, Py_ssize_t count) {
+    struct store *self = (struct store *)it;
+    struct state *state = self->state;
+    uint64_t name, found = 0;
+    tg_target *edges = NULL;
+    if (!numbers_of(state, words, count, &name, 1) || !begin_long(state))
+        return NULL;
+    tg_status status = ask_edges(self, name, &edges, &found);
+    PyObject *told = NULL;
+    if (end_long(state))
+        told = status == TG_DONE ? targets_told(state, edges, found) : refused(state, status, NULL, NULL);
+    free(edges);
     return told;
 }

@@ -23,7 +23,7 @@ from .journal import DEEDS, REPLIES, Edges, Inspect, Record
 from .journal import List as Listed
 
 CALLS = (
-    "abi open close take grant remove hand write append create spawn retire leave who_holds subjects read list inspect label collect census names entries "
+    "abi open close take grant remove hand write append create spawn retire leave withdraw who_holds edges_to subjects read list inspect label collect census names entries "
     "first entry forget resume reopen apply_all audit auditor_open auditor_feed auditor_at auditor_forget auditor_sweep auditor_close "
     "auditor_snapshot auditor_reopen snapshot_text snapshot_read snapshot_close could answer_kind answer_names answer_turns answer_turn answer_close view_open view_could view_close"
 ).split()
@@ -399,12 +399,32 @@ class Store(_Place):
 
     def who_holds(self, right: int, name: int) -> List[int]:
         right_in, name_in = _number(right), _number(name)
+        return self._each_name(library.tg_who_holds, right_in, name_in, right=right_in.value)
+
+    def withdraw(self, target: int, rights: int, keep: bytes) -> List[int]:
+        target_in, rights_in = _number(target), _number(rights)
+        return self._each_name(library.tg_withdraw, target_in, rights_in, keep, c_size_t(len(keep) // NUMBER_SIZE))
+
+    def edges_to(self, name: int) -> List[Target]:
+        name_in = _number(name)
         with LOCK:
-            # Whoever holds it is a vertex of the heap, so one walk of the graph finds room for all.
+            # Each leads from a vertex of the heap, so one walk of the graph finds room for all.
+            room = self._vertices()
+            while True:
+                edges = (Number * (2 * room))()
+                count = self._count(library.tg_edges_to, name_in, byref(edges), c_size_t(room))
+                if count <= room:
+                    return _targets(edges[: 2 * count])
+                room = count
+
+    def _each_name(self, function: Function, *asked: object, right: Optional[int] = None) -> List[int]:
+        """Names of vertices. The call of the library may be made twice."""
+        with LOCK:
+            # Each is a vertex of the heap, so one walk of the graph finds room for all.
             room = self._vertices()
             while True:
                 names = (Number * room)()
-                count = self._count(library.tg_who_holds, right_in, name_in, byref(names), c_size_t(room), right=right_in.value)
+                count = self._count(function, *asked, byref(names), c_size_t(room), right=right)
                 if count <= room:
                     return names[:count]
                 room = count

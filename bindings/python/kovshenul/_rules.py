@@ -234,9 +234,9 @@ class Graph:
             ahead += more
         return found
 
-    def holders(self, right: int, y: int) -> List[int]:
-        """Who holds the right over y, of all that are reached, by rising name."""
-        return sorted(x for x in self.reached() if self.label(x, y) & right)
+    def holders(self, rights: int, y: int) -> List[int]:
+        """Who holds one of the rights over y, of all that are reached, by rising name."""
+        return sorted(x for x in self.reached() if self.label(x, y) & rights)
 
 
 class Future:

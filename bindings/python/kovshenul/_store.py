@@ -8,10 +8,10 @@ from ._backend import back_end
 from ._held import Held
 from ._library import number_in, short_of
 from ._marks import Marked
-from ._packed import commands_in, entry_in, limits_in, opening_in, scene_in, value_in
+from ._packed import bytes_of, commands_in, entry_in, limits_in, opening_in, scene_in, value_in
 from ._refusals import BadPlace, Denied, Refused, refusal
 from ._snapshot import Snapshot
-from ._values import RIGHTS, Counts, Kind, Limits, Rights, Target, Value
+from ._values import RIGHTS, Counts, Edge, Kind, Limits, Rights, Target, Value
 from ._view import View
 from .journal import Deed, Entry, Reply, entry_of
 from .outlook import Outlook, outlook_of
@@ -182,10 +182,29 @@ class Store(Held, Marked):
         remove, and the retire, has an entry. The call is done whole, or refused because memory ran out."""
         return self._place.leave(worker)
 
+    def withdraw(self, target: int, rights: int, keep: Iterable[int] = ()) -> List[int]:
+        """Withdraws rights over a target. Each worker with a name outside of `keep` removes what it holds of the rights. Each remove has
+        an entry, by rising name. Afterwards no worker outside of `keep` holds any of the rights over the target, and all other labels
+        are as they were. The call is done whole, or refused.
+
+        Returns who still holds some of the rights, by rising name: kept workers, objects, and workers that retired, of all that the
+        workers then reach. If this is nobody and the target was made, no vertex that a worker reaches ever holds one of the rights
+        over the target again. Otherwise a worker may take a right back, and `could` says which. Without `keep` the target may be reached
+        by nobody, and then the next full collection frees it.
+
+        A name in `keep` that isn't a worker's is ignored. From a target that was never made nothing is removed.
+        """
+        return self._place.withdraw(target, rights, bytes_of(keep))
+
     def who_holds(self, right: int, name: int) -> List[int]:
         """Returns who holds the right over the vertex with this name, by rising name: workers, objects, and workers that retired,
         of all that a worker reaches. The journal gets no entry. It raises BadRights if it isn't one right."""
         return self._place.who_holds(right, name)
+
+    def edges_to(self, name: int) -> List[Edge]:
+        """Returns the edges to the vertex with this name, of all that a worker reaches, by rising name of the vertex from which each
+        leads. A vertex that was never made has none. The journal gets no entry. So a host finds who holds on to a worker that left."""
+        return [Edge(source, name, rights) for source, rights in self._place.edges_to(name)]
 
     def subjects(self) -> List[int]:
         """Returns the names of the active workers, rising. The journal gets no entry."""

@@ -116,7 +116,7 @@ LETTERS = {Cell: "c", Sum: "s", Max: "m", Log: "l"}
 
 
 class Edge(NamedTuple):
-    """The rights of vertex `source` over vertex `target`, at the opening or in a snapshot. At the opening both are workers."""
+    """The rights of `source` over `target`: of two workers at the opening, of a snapshot's vertices, or over the vertex that is asked about."""
 
     source: int
     target: int

@@ -50,7 +50,7 @@ from ._refusals import (
     WorkersFull,
     refusal,
 )
-from ._rules import Denial, Full, Graph
+from ._rules import ALL_RIGHTS, Denial, Full, Graph
 from ._snapshot import Snapshot, Vertex
 from ._texts import end_text, opening_text
 from ._values import MOST_NUMBERS, Cell, Counts, Edge, Kind, Limits, Log, Max, Rights, Sum, Target, Value
@@ -278,6 +278,18 @@ class Store(_Held, Marked):
         self.retire(worker)
         return len(row)
 
+    def withdraw(self, target: int, rights: int, keep: Iterable[int] = ()) -> List[int]:
+        """Each worker outside of `keep` removes what it holds of the rights over the target, by rising name. Returns who still holds
+        some of them, of all that a worker then reaches, by rising name."""
+        target, rights, *kept = numbers_in(target, rights, *keep)
+        must_be_rights(rights)
+        self._must_be_open()
+        for worker in self.subjects():
+            held = self._graph.label(worker, target) & rights
+            if held and worker not in kept:
+                self.remove(worker, target, held)
+        return self._graph.holders(rights, target)
+
     def _must_work(self, worker: int) -> None:
         """The store is open, and the worker is active."""
         self._must_be_open()
@@ -321,6 +333,13 @@ class Store(_Held, Marked):
         must_be_one(right)
         self._must_be_open()
         return self._graph.holders(right, name)
+
+    def edges_to(self, name: int) -> List[Edge]:
+        """Returns the edges to the vertex with this name, of all that a worker reaches, by rising name of the vertex from which each
+        leads."""
+        (name,) = numbers_in(name)
+        self._must_be_open()
+        return [Edge(source, name, Rights(self._graph.label(source, name))) for source in self._graph.holders(ALL_RIGHTS, name)]
 
     def subjects(self) -> List[int]:
         """The names of the active workers, rising."""

@@ -60,6 +60,7 @@ TAKES = {
     "retire": (1, False),
     "leave": (1, False),
     "who_holds": (2, False),
+    "edges_to": (1, False),
     "read": (2, False),
     "list": (1, False),
     "inspect": (2, False),

@@ -57,7 +57,7 @@ COULD = (outlook.Could, outlook.WantsNames, outlook.Open)
 
 NUMBERS = (0, 1, 7, 40, 2**63, 2**64 - 1)
 VALUES = (Cell(3), Sum(40), Sum(2**64 - 1), Max(9), Log(1), Log(2), Log(2))
-MAKING, MOVING, TOUCHING = ("create", "spawn"), ("take", "grant", "hand"), ("read", "write", "append", "inspect", "label", "who_holds")
+MAKING, MOVING, TOUCHING = ("create", "spawn"), ("take", "grant", "hand"), ("read", "write", "append", "inspect", "label", "who_holds", "withdraw")
 COMMANDS = (*MAKING, "create", *MOVING * 3, *TOUCHING, "append", "append", "remove", "list")
 RARE = ("retire", "leave", "wrong", "look_back")
 
@@ -125,6 +125,8 @@ class Draw:
             return command, x, target, self.rng.choice(NUMBERS)
         if command == "who_holds":
             return command, self.rng.choice(list(Rights)), target
+        if command == "withdraw":
+            return command, target, self.rights(), [self.name(graph) for _ in range(self.rng.randrange(3))]
         return (command, x) if command in ("list", "retire", "leave") else (command, x, target)
 
     def moved(self, graph, x, command):
@@ -138,7 +140,7 @@ class Draw:
         y = self.name(graph)
         wrong = [("take", x, y, 0, 0), ("remove", x, y, 256), ("hand", x, y, y, 0, 0), ("hand", x, y, y, 0, 256), ("create", x, 0, Cell(0)), ("create", x, READ, Log(65))]
         wrong += [("spawn", x, READ, Log(0)), ("spawn", x, READ, None), ("read", x, -1), ("write", x, y, 2**64)]
-        wrong += [("who_holds", 3, y), ("could", x, 3, y), ("entry", 999)]
+        wrong += [("withdraw", y, 0), ("withdraw", y, 256, [x]), ("withdraw", y, READ, [-1]), ("who_holds", 3, y), ("could", x, 3, y), ("entry", 999)]
         return self.rng.choice(wrong)
 
     def scene(self, graph):
@@ -179,6 +181,7 @@ class Run:
                 self.same("read", x, y)
         for y in range(max(0, made - 12), made + 1):
             self.same("who_holds", self.draw.rng.choice(list(Rights)), y)
+            self.same("edges_to", y)
         self.same("collect", FULL)
         self.same("names")
         counts, wanted = self.store.census(), self.model.census()
@@ -397,7 +400,7 @@ class Surface(unittest.TestCase):
             self.assertRaises(NotOpen, it.__enter__)
         self.assertRaises(NotOpen, view.could, 0, READ, 1)
         calls = [("read", 0, 1), ("list", 0), ("create", 0, READ, Cell(0)), ("leave", 0), ("label", 0, 1), ("subjects",)]
-        calls += [("hand", 0, 1, 1, 0, READ), ("who_holds", READ, 1), ("could", 0, READ, 1), ("view",), ("collect",), ("names",), ("census",)]
+        calls += [("hand", 0, 1, 1, 0, READ), ("withdraw", 1, READ), ("who_holds", READ, 1), ("edges_to", 1), ("could", 0, READ, 1), ("view",), ("collect",), ("names",), ("census",)]
         calls += [("entries",), ("entry", 0), ("forget", 0), ("audit",), ("go_on", 0, [kovshenul.journal.Entry(0, kovshenul.journal.List(), kovshenul.journal.Done())])]
         for call, *arguments in calls:
             self.assertRaises(NotOpen, getattr(model, call), *arguments)
@@ -480,10 +483,14 @@ WRONG_STORES = {
     "a spawned one is no worker": ("spawn", lambda it, x, rights, value: Store.create(it, x, rights, value)),
     "who retires goes on": ("retire", lambda it, x: it.label(x, x) and None),
     "who leaves keeps its edges": ("leave", lambda it, x: Store.retire(it, x) or 0),
+    "a withdrawal keeps nobody": ("withdraw", lambda it, y, rights, keep: Store.withdraw(it, y, rights)),
+    "a withdrawal of all rights": ("withdraw", lambda it, y, rights, keep: Store.withdraw(it, y, 255, keep)),
+    "a withdrawal reports workers alone": ("withdraw", lambda it, y, rights, keep: [x for x in Store.withdraw(it, y, rights, keep) if x in it.subjects()]),
     "the last edge isn't listed": ("list", lambda it, x, room=64: Store.list(it, x)[:-1]),
     "an inspect shows one's own edges": ("inspect", lambda it, x, y, room=64: Store.list(it, x)),
     "a label without v": ("label", lambda it, x, y: Store.label(it, x, y) & ~Rights.FREE_V),
     "objects hold nothing": ("who_holds", lambda it, right, y: [x for x in Store.who_holds(it, right, y) if x in it.subjects()]),
+    "retired workers have no edge": ("edges_to", lambda it, y: [edge for edge in Store.edges_to(it, y) if edge.source in it.subjects()]),
     "the edge of a denial": ("write", lambda it, x, y, number: with_wrong_edge(Store.write.__get__(it), x, y, number)),
     "the silent ones act": ("could", lambda it, x, right, y, silent, as_if: Store.could(it, x, right, y, (), as_if)),
     "no edge is supposed": ("view", lambda it, silent, as_if: Store.view(it, silent)),

@@ -160,7 +160,7 @@ class BackEnds(unittest.TestCase):
             calls += [(store.hand, 0, 1, 1, 1, 1), (Store.reopen, auditor.snapshot(), LIMITS)]
             calls += [(store.write, 0, 1, 1), (store.append, 0, 1, 1), (store.create, 0, 1, Cell(0)), (store.spawn, 0, 1, Cell(0))]
             calls += [(store.list, 0), (store.inspect, 0, 1), (store.retire, 0), (store.leave, 0), (store.label, 0, 1)]
-            calls += [(store.who_holds, 1, 1), (store.could, 0, 1, 1), (store.view,), (store.collect,), (store.census,)]
+            calls += [(store.who_holds, 1, 1), (store.withdraw, 1, 1), (store.edges_to, 1), (store.could, 0, 1, 1), (store.view,), (store.collect,), (store.census,)]
             calls += [(it,) for it in (store.names, store.subjects, store.entries, store.first, store.audit)]
             calls += [(store.entry, 0), (store.forget, 0), (auditor.feed, store), (auditor.forget, store, 0), (auditor.sweep,)]
             calls += [(view.could, 0, 1, 1), (lambda: auditor.at,), (Store, [Cell(0)]), (Auditor, [Cell(0)])]
@@ -460,6 +460,24 @@ class Stores(unittest.TestCase):
             self.assertRaises(kovshenul.BadRights, store.hand, 0, owner, reader, document, 0)
             self.assertEqual(store.audit(), 6 + len(denials))
 
+    def test_rights_are_withdrawn(self):
+        with Store([Cell(0)]) as store:
+            document = store.create(0, READ | WRITE, Cell(0))
+            readers = [store.spawn(0, GRANT | TAKE, Cell(0)) for _ in range(3)]
+            for reader in readers:
+                store.grant(0, reader, document, READ | WRITE)
+            store.retire(readers[2])
+            before = store.entries()
+            self.assertEqual(store.withdraw(document, READ, [0, 99]), [0, readers[2]])
+            self.assertEqual([str(entry) for entry in [*store.journal()][before:]], [f"{it} remove {document} r = ok" for it in readers[:2]])
+            self.assertEqual([store.label(it, document) for it in (0, *readers[:2])], [READ | WRITE, WRITE, WRITE])
+            self.assertRaises(kovshenul.BadRights, store.withdraw, document, 0)
+            self.assertRaises(OverflowError, store.withdraw, document, READ, [-1])
+            self.assertRaises(TypeError, store.withdraw, document, READ, 0)
+            self.assertEqual((store.withdraw(999, READ), store.withdraw(document, APPEND)), ([], []))
+            self.assertEqual(store.withdraw(document, READ | WRITE), [readers[2]])
+            self.assertEqual(store.audit(), store.entries())
+
     def test_who_holds_is_asked_once(self):
         with Store([Cell(0)], [], Limits(400, 64, 64)) as store:
             document = store.create(0, READ, Cell(0))
@@ -481,6 +499,8 @@ class Stores(unittest.TestCase):
             self.assertEqual([store.leave(client) for client in clients], [3, 3, 3])
             self.assertEqual((store.collect(), store.names()), (5, {0, 1, *clients}))
             self.assertEqual([store.who_holds(GRANT, client) for client in clients], [[0], [0], [0]])
+            self.assertEqual(store.edges_to(clients[1]), [Edge(0, clients[1], GRANT | TAKE)])
+            self.assertEqual((store.edges_to(999), store.edges_to(notes[0])), ([], []))
             self.assertEqual([store.who_holds(READ, note) for note in notes], [[], [], []])
             self.assertEqual(store.audit(), store.entries())
 

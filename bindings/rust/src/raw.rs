@@ -221,6 +221,17 @@ extern "C" {
     pub fn tg_spawn(store: *mut RawStore, worker: u64, rights: u64, value: &RawValue, name: &mut u64) -> u32;
     pub fn tg_retire(store: *mut RawStore, worker: u64) -> u32;
     pub fn tg_leave(store: *mut RawStore, worker: u64, count: &mut u64) -> u32;
+    pub fn tg_edges_to(store: *mut RawStore, name: u64, edges: *mut RawTarget, room: usize, count: &mut u64) -> u32;
+    pub fn tg_withdraw(
+        store: *mut RawStore,
+        target: u64,
+        rights: u64,
+        keep: *const u64,
+        keep_count: usize,
+        names: *mut u64,
+        room: usize,
+        count: &mut u64,
+    ) -> u32;
     pub fn tg_who_holds(store: *mut RawStore, right: u64, name: u64, names: *mut u64, room: usize, count: &mut u64) -> u32;
     pub fn tg_subjects(store: *mut RawStore, names: *mut u64, room: usize, count: &mut u64) -> u32;
     pub fn tg_read(

@@ -261,11 +261,68 @@ impl Store {
     /// Returns who holds the right over the vertex with this name, by rising name: workers, objects, and workers that
     /// retired, of all that a worker reaches. The journal gets no entry. It is `BadRights` if it isn't one right.
     pub fn who_holds(&self, right: Rights, name: u64) -> Result<Vec<u64>, Error> {
-        // Whoever holds it is a vertex of the heap, so one walk of the graph finds room for all. The room isn't cleared.
+        self.each_name(|names, room, count| unsafe { raw::tg_who_holds(self.at(), right.bits(), name, names, room, count) })
+    }
+
+    /// Withdraws rights over a target. Each worker with a name outside of `keep` removes what it holds of the rights. Each remove has
+    /// an entry, by rising name. Afterwards no worker outside of `keep` holds any of the rights over the target, and all other labels
+    /// are as they were. The call is done whole, or refused.
+    ///
+    /// Returns who still holds some of the rights, by rising name: kept workers, objects, and workers that retired, of all that the
+    /// workers then reach. If this is nobody and the target was made, no vertex that a worker reaches ever holds one of the rights over
+    /// the target again. Otherwise a worker may take a right back, and [`could`](Store::could) says which. Without `keep` the target
+    /// may be reached by nobody, and then the next full collection frees it.
+    ///
+    /// A name in `keep` that isn't a worker's is ignored. From a target that was never made nothing is removed.
+    ///
+    /// ```
+    /// # use kovshenul::{Error, Limits, Rights, Store, Value};
+    /// # let mut store = Store::open(&[Value::Cell(0)], &[], &Limits::default())?;
+    /// let reader = store.spawn(0, Rights::GRANT, Value::Cell(0))?;
+    /// let document = store.create(0, Rights::READ | Rights::WRITE, Value::Cell(7))?;
+    /// store.grant(0, reader, document, Rights::READ)?;
+    /// assert_eq!(store.withdraw(document, Rights::READ, &[0])?, [0]);
+    /// assert_eq!(store.label(reader, document)?, Rights::NONE);
+    /// assert_eq!(store.withdraw(document, Rights::READ, &[])?, []);
+    /// # Ok::<(), Error>(())
+    /// ```
+    pub fn withdraw(&mut self, target: u64, rights: Rights, keep: &[u64]) -> Result<Vec<u64>, Error> {
+        let (at, bits) = (self.at(), rights.bits());
+        self.each_name(|names, room, count| unsafe {
+            raw::tg_withdraw(at, target, bits, keep.as_ptr(), keep.len(), names, room, count)
+        })
+    }
+
+    /// Returns the edges to the vertex with this name, of all that a worker reaches, by rising name of the vertex from which each
+    /// leads. A vertex that was never made has none. The journal gets no entry. So a host finds who holds on to a worker that left.
+    ///
+    /// ```
+    /// # use kovshenul::{Edge, Error, Limits, Rights, Store, Value};
+    /// # let mut store = Store::open(&[Value::Cell(0)], &[], &Limits::default())?;
+    /// let client = store.spawn(0, Rights::GRANT, Value::Cell(0))?;
+    /// store.leave(client)?;
+    /// assert_eq!(store.edges_to(client)?, [Edge { from: 0, to: client, rights: Rights::GRANT }]);
+    /// # Ok::<(), Error>(())
+    /// ```
+    pub fn edges_to(&self, name: u64) -> Result<Vec<Edge>, Error> {
+        // Each leads from a vertex of the heap, so one walk of the graph finds room for all.
+        let (mut edges, mut count) = (vec![RawTarget::default(); self.census()?.vertices as usize], 0);
+        loop {
+            served(unsafe { raw::tg_edges_to(self.at(), name, edges.as_mut_ptr(), edges.len(), &mut count) })?;
+            if let Some(edges) = edges.get(..count as usize) {
+                return Ok(edges.iter().map(|edge| Edge { from: edge.to, to: name, rights: Rights::told(edge.rights) }).collect());
+            }
+            edges.resize(count as usize, RawTarget::default());
+        }
+    }
+
+    // Asks for names of vertices, and asks again if there was too little room. The call of the library may be made twice.
+    fn each_name(&self, ask: impl Fn(*mut u64, usize, &mut u64) -> u32) -> Result<Vec<u64>, Error> {
+        // Each is a vertex of the heap, so one walk of the graph finds room for all. The room isn't cleared.
         let (mut names, mut count) = (Vec::with_capacity(self.census()?.vertices as usize), 0);
         loop {
             let room = names.capacity();
-            served(unsafe { raw::tg_who_holds(self.at(), right.bits(), name, names.as_mut_ptr(), room, &mut count) })?;
+            served(ask(names.as_mut_ptr(), room, &mut count))?;
             if count as usize <= room {
                 unsafe { names.set_len(count as usize) };
                 names.shrink_to_fit();

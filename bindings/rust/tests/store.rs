@@ -190,6 +190,28 @@ fn rights_are_handed_on() {
 }
 
 #[test]
+fn rights_are_withdrawn() {
+    let mut store = opened(1);
+    let both = Rights::READ | Rights::WRITE;
+    let document = store.create(0, both, Value::Cell(0)).unwrap();
+    let readers: Vec<u64> = (0..3).map(|_| store.spawn(0, Rights::GRANT | Rights::TAKE, Value::Cell(0)).unwrap()).collect();
+    for reader in &readers {
+        store.grant(0, *reader, document, both).unwrap();
+    }
+    store.retire(readers[2]).unwrap();
+    let before = store.entries().unwrap();
+    assert_eq!(store.withdraw(document, Rights::READ, &[0, 99]), Ok(vec![0, readers[2]]));
+    let told: Vec<_> = store.journal().skip(before as usize).map(|entry| (entry.worker, entry.deed, entry.reply)).collect();
+    let remove = Deed::Remove { target: document, rights: Rights::READ };
+    assert_eq!(told, [(readers[0], remove.clone(), Reply::Done), (readers[1], remove, Reply::Done)]);
+    assert_eq!((store.label(0, document), store.label(readers[0], document)), (Ok(both), Ok(Rights::WRITE)));
+    assert_eq!(store.withdraw(document, Rights::NONE, &[]), Err(Error::BadRights));
+    assert_eq!((store.withdraw(999, both, &[]), store.withdraw(document, Rights::APPEND, &[])), (Ok(vec![]), Ok(vec![])));
+    assert_eq!(store.withdraw(document, both, &[]), Ok(vec![readers[2]]));
+    assert_eq!(store.entries(), store.audit());
+}
+
+#[test]
 fn all_who_hold_are_named() {
     let mut store = opened(1);
     let document = store.create(0, Rights::READ, Value::Cell(0)).unwrap();
@@ -218,7 +240,9 @@ fn three_who_know_each_other_leave_empty_rows() {
     let mut names = store.names().unwrap();
     names.sort();
     assert_eq!(names, [vec![0], clients.clone()].concat());
+    assert_eq!((store.edges_to(notes[0]), store.edges_to(999)), (Ok(vec![]), Ok(vec![])));
     for (client, note) in clients.iter().zip(&notes) {
+        assert_eq!(store.edges_to(*client), Ok(vec![Edge { from: 0, to: *client, rights: know }]));
         assert_eq!((store.who_holds(Rights::GRANT, *client), store.who_holds(Rights::READ, *note)), (Ok(vec![0]), Ok(vec![])));
     }
     assert_eq!(store.entries(), store.audit());

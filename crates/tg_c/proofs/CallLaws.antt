@@ -12,12 +12,14 @@ use Rattle.tg_model.specs.declared.reply.Reply.TheVariants.{Denied}
 use Rattle.tg_store.specs.Store.{StoreState}
 use Rattle.tg_c.specs.declared.place.StorePlace.{StorePlace}
 use Rattle.tg_model.specs.declared.making.Making.{Making}
+use Rattle.tg_c.specs.declared.forms.EdgeOut.{EdgeOut}
 use Rattle.tg_c.specs.declared.forms.ValueIn.{ValueIn}
 use Rattle.tg_c.specs.declared.refusal.CallRefusal.{CallRefusal}
 use Rattle.tg_c.specs.declared.refusal.CallRefusal.TheVariants.{NotOpen}
 use Rattle.tg_c.specs.Calls.{Applies, Asks, AsksWithRights, IsCall, IsReplyTo, IsShown, Makes, MakesOfForms, state_in}
 use Rattle.tg_c.specs.Forms.{label_at}
-use Rattle.tg_c.specs.Statuses.{TellsNames, TellsNumber, of_apply, of_create, refused_as}
+use Rattle.tg_c.specs.Ending.{AreEdgesShown}
+use Rattle.tg_c.specs.Statuses.{TellsEdges, TellsNames, TellsNumber, of_apply, of_create, refused_as}
 
 -- a refusal that C knows already
 pub as_it_is : {T : Type 0} (answer : Result T CallRefusal) → refused_as (λ why. why) answer ≡ answer
@@ -118,3 +120,11 @@ names_told status old new room after answer (Ok names) number shown =
     let both = subst (λ a. TellsNumber status old new a) shown.0 number in (both.0, λ i. record { count = both.1 i; names = shown.1 i })
 names_told status old new room after answer (Err why) number shown =
     let both = subst (λ a. TellsNumber status old new a) shown.0 number in (both.0, λ i. record { count = both.1 i; names = shown.1 i })
+
+-- the same of edges
+pub edges_told : (status old new : ℕ) (room after : List EdgeOut) (answer : Result ℕ CallRefusal) (told : Result (List (ℕ × RightSet)) CallRefusal) → TellsNumber status old new answer → AreEdgesShown room after answer told
+    → TellsEdges status (record { count = old; edges = room }) (record { count = new; edges = after }) told
+edges_told status old new room after answer (Ok edges) number shown =
+    let both = subst (λ a. TellsNumber status old new a) shown.0 number in (both.0, λ i. record { count = both.1 i; edges = shown.1 i })
+edges_told status old new room after answer (Err why) number shown =
+    let both = subst (λ a. TellsNumber status old new a) shown.0 number in (both.0, λ i. record { count = both.1 i; edges = shown.1 i })

@@ -1,17 +1,19 @@
--- What C gets of a worker that leaves, and of who holds a right.
-use Rattle.std.specs.Prelude.{◌≡◌, ◌≢◌, ◌↔◌, ℕ, List, Some, None, Result, Err, IfOk, IfErr, OnErr, OnOk, length}
+-- What C gets of a worker that leaves, of who holds a right, and of who has an edge to a vertex.
+use Rattle.std.specs.Prelude.{◌≡◌, ◌≢◌, ◌↔◌, ℕ, List, Some, None, Result, Err, Ok, IfOk, IfErr, OnErr, OnOk, length}
 use Rattle.tg_rights.specs.declared.Right.{Right}
-use Rattle.tg_rights.specs.RightSet.{right_of_bit}
+use Rattle.tg_rights.specs.RightSet.{RightSet, right_of_bit}
 use Rattle.tg_model.specs.Graph.{ProtectionGraph, IsSubject, listing_of}
-use Rattle.tg_store.specs.Holding.{AreHolders}
+use Rattle.tg_store.specs.Holding.{AreEdgesTo, AreHolders}
 use Rattle.tg_store.specs.Leaving.{HasLeft}
 use Rattle.tg_store.specs.Store.{StoreState, IsUnchanged, StandsFor}
 use Rattle.tg_store.specs.declared.fault.ApplyFault.{ApplyFault}
 use Rattle.tg_store.specs.declared.fault.ApplyFault.TheVariants as apply
+use Rattle.tg_c.specs.declared.forms.EdgeOut.{EdgeOut}
 use Rattle.tg_c.specs.declared.place.StorePlace.{StorePlace}
 use Rattle.tg_c.specs.declared.refusal.CallRefusal.{CallRefusal}
 use Rattle.tg_c.specs.declared.refusal.CallRefusal.TheVariants as refusal
 use Rattle.tg_c.specs.Calls.{IsCall, Refuses}
+use Rattle.tg_c.specs.Forms.{edges_shown_in}
 use Rattle.tg_c.specs.Statuses.{of_apply}
 
 -- the answer to a worker that leaves: the clauses of the store's `leave`
@@ -35,3 +37,17 @@ pub record AreToldHolders (right : Right) (name : ℕ) (old new : StoreState) (a
 pub record AsksHolders (old new : StorePlace) (bits name : ℕ) (tells : Result (List ℕ) CallRefusal → Type 0) : Type 0 where
   pub asked : (right : Right) → right_of_bit bits ≡ Some right → IsCall (λ why. why) (AreToldHolders right name) old new tells
   pub bad_rights : right_of_bit bits ≡ None → Refuses old new tells refusal.BadRights
+
+-- the answer to who has an edge to a vertex: the clause of the store's `edges_to`, which is refused for lack of memory alone
+pub record AreToldEdgesTo (name : ℕ) (old new : StoreState) (answer : Result (List (ℕ × RightSet)) CallRefusal) : Type 0 where
+  pub same : new ≡ old
+  pub edges : (g : ProtectionGraph) → StandsFor old g → IfOk answer (AreEdgesTo g name)
+  pub wanting : IfErr answer (λ why. why ≡ refusal.OutOfMemory)
+
+abbrev pub AsksEdgesTo : StorePlace → StorePlace → ℕ → (Result (List (ℕ × RightSet)) CallRefusal → Type 0) → Type 0
+AsksEdgesTo old new name = IsCall (λ why. why) (AreToldEdgesTo name) old new
+
+-- edges were put into a room as far as it goes, and how many there are was answered; or the call was refused, and the room is as it was
+abbrev pub AreEdgesShown : List EdgeOut → List EdgeOut → Result ℕ CallRefusal → Result (List (ℕ × RightSet)) CallRefusal → Type 0
+AreEdgesShown old new answer (Ok edges) = (answer ≡ Ok (length edges)) × (new ≡ edges_shown_in edges old)
+AreEdgesShown old new answer (Err why) = (answer ≡ Err why) × (new ≡ old)

@@ -1,5 +1,6 @@
 -- What C gets of an answer: the status, and what goes to the out parameters. A refused call writes to none of them.
 use Rattle.std.specs.Prelude.{◌≡◌, ℕ, List, Result, Ok, Err, length}
+use Rattle.tg_rights.specs.RightSet.{RightSet}
 use Rattle.tg_model.specs.declared.opening.OpeningFault.{OpeningFault}
 use Rattle.tg_model.specs.declared.opening.OpeningFault.TheVariants as opening
 use Rattle.tg_model.specs.declared.reply.Reply.{Reply}
@@ -194,6 +195,11 @@ TellsInspect status old new (Ok (Values values)) = ⊥
 TellsInspect status old new (Ok VerticesFull) = ⊥
 TellsInspect status old new (Ok WorkersFull) = ⊥
 TellsInspect status old new (Err why) = (status ≡ status_of why) × (new ≡ old)
+
+-- of a call for the edges to a vertex
+abbrev pub TellsEdges : ℕ → ListOut → ListOut → Result (List (ℕ × RightSet)) CallRefusal → Type 0
+TellsEdges status old new (Ok edges) = (status ≡ 0) × (new ≡ record { count = length edges; edges = edges_shown_in edges old.edges })
+TellsEdges status old new (Err why) = (status ≡ status_of why) × (new ≡ old)
 
 -- of a call that answers no more than that it was done
 abbrev pub TellsOnly : ℕ → Result (Unit {0}) CallRefusal → Type 0

@@ -1,12 +1,13 @@
-//! How a worker leaves from C, and who holds a right over a vertex.
+//! How a worker leaves from C, who holds a right over a vertex, and who has an edge to it.
 ghost use Rattle.std.specs.Prelude.{◌≡◌};
 ghost use Rattle.tg_c.specs.Calls.{IsShown};
-ghost use Rattle.tg_c.specs.Ending.{AsksHolders, Leaves};
+ghost use Rattle.tg_c.specs.Ending.{AreEdgesShown, AsksEdgesTo, AsksHolders, Leaves};
 
+use crate::forms::EdgeOut;
 use crate::held::Holder;
 use crate::place::StorePlace;
 use crate::refusal::CallRefusal;
-use crate::tell::put_numbers;
+use crate::tell::{put_edges, put_numbers};
 use std::alloc::Global;
 use tg_rights::Right;
 
@@ -45,4 +46,25 @@ pub fn who_holds(
     let names = holders.as_slice();
     put_numbers(names, into);
     Ok(names.len() as u64)
+}
+
+/// Lists the edges to a vertex, each with the name of the vertex from which it leads, as many as there is room for.
+/// Returns how many there are.
+pub fn edges_to(
+    alloc: Global,
+    place: &mut StorePlace,
+    name: u64,
+    into: &mut [EdgeOut],
+) -> Result<u64, CallRefusal>
+    ensures { AsksEdgesTo place.old place.new name (AreEdgesShown into.old into.new result) }
+{
+    let Some(opened) = place.take(alloc) else {
+        return Err(CallRefusal::NotOpen);
+    };
+    let found = opened.store.edges_to(alloc, name);
+    place.put(opened);
+    let found = found?;
+    let edges = found.as_slice();
+    put_edges(edges, into);
+    Ok(edges.len() as u64)
 }

@@ -196,8 +196,8 @@ pub fn put_names(subjects: &[Subject], out: &mut [u64])
     }
 }
 
-// As many edges as there is room for.
-fn put_edges(edges: &[(u64, Label)], out: &mut [EdgeOut])
+/// As many edges as there is room for.
+pub fn put_edges(edges: &[(u64, Label)], out: &mut [EdgeOut])
     ensures { out.new ≡ edges_shown_in edges.now out.old }
 {
     let count = edges.len().min(out.len());

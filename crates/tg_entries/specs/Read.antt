@@ -1,5 +1,5 @@
 -- What an audit of a text has read.
-use Rattle.std.specs.Prelude.{◌≡◌, ℕ, ◌+◌, List, [], ◌∷◌, ◌++◌, length, Option, Some, None, IfSome}
+use Rattle.std.specs.Prelude.{◌≡◌, Bool, ℕ, ◌+◌, List, [], ◌∷◌, ◌++◌, length, Option, Some, None, IfSome}
 use Rattle.std.specs.Io.KnownBytes.{Consumes}
 use Rattle.tg_model.specs.Graph.{ProtectionGraph}
 use Rattle.tg_journal.specs.declared.entry.Entry.{Entry}
@@ -13,11 +13,12 @@ use Rattle.tg_entries.specs.declared.stage.Stage.TheVariants as stage
 use Rattle.tg_saved.specs.Read.{HasReadSnapshot}
 use Rattle.tg_saved.specs.Texts.{snapshot_text}
 use Rattle.tg_snapshot.specs.Snapshot.{Saved, IsSnapshot, graph_shown}
-use Rattle.tg_entries.specs.Texts.{TextStart, IsCountedText, IsTextStart, end_text, entries_before, entry_text, graph_of_origin, opening_text, origin_text, sum_before, version_text}
+use Rattle.tg_entries.specs.Kept.{IsKept}
+use Rattle.tg_entries.specs.Texts.{Shown, TextStart, IsCountedText, IsTextStart, end_text, entries_before, entry_text, graph_of_origin, opening_text, origin_text, sum_before, version_text}
 
 -- The text is an origin's and then that of so many entries, which are a legal history. Count lines may be between them. The audit has
--- come to the graph and the place after them.
-pub record HasEntered (text : List ℕ) (entered : Entered) : Type 0 where
+-- come to the graph and the place after them, and keeps this history where it keeps any.
+pub record HasEntered (keeps : Bool) (text : List ℕ) (entered : Entered) : Type 0 where
   pub origin : TextStart
   pub entries : List Entry
   pub body : List ℕ
@@ -28,9 +29,10 @@ pub record HasEntered (text : List ℕ) (entered : Entered) : Type 0 where
   pub sum : entered.before ≡ sum_before origin
   pub counted : IsCountedText entries body
   pub text_is : text ≡ origin_text origin ++ body
+  pub kept : IsKept keeps origin entries entered.kept
 
--- the text is that of a snapshot, and the audit has come to the graph and the place that it shows
-pub record HasReopened (text : List ℕ) (entered : Entered) : Type 0 where
+-- the text is that of a snapshot, and the audit has come to the graph and the place that it shows, from which it keeps a history
+pub record HasReopened (keeps : Bool) (text : List ℕ) (entered : Entered) : Type 0 where
   pub shown : Saved
   pub accepted : IsSnapshot shown
   pub come : StandsAt (graph_shown shown) entered.auditor
@@ -38,11 +40,12 @@ pub record HasReopened (text : List ℕ) (entered : Entered) : Type 0 where
   pub number : entered.count ≡ 0
   pub sum : entered.before ≡ None
   pub text_is : text ≡ snapshot_text shown
+  pub kept : IsKept keeps (Shown shown) [] entered.kept
 
 -- the text is that of a whole history, and the audit has come to the graph and the place after it
-pub record HasEnded (text : List ℕ) (entered : Entered) : Type 0 where
+pub record HasEnded (keeps : Bool) (text : List ℕ) (entered : Entered) : Type 0 where
   pub front : List ℕ
-  pub read : HasEntered front entered
+  pub read : HasEntered keeps front entered
   pub whole : text ≡ front ++ end_text entered.count
 
 -- the audit has come to a graph of which there is a snapshot
@@ -56,42 +59,50 @@ abbrev pub HasReadAll : Option (List ℕ) → Option (List ℕ) → Type 0
 HasReadAll known left = IfSome known (λ _. left ≡ Some [])
 
 -- all that the reader had, if that is known, is such a text, and was read
-pub record EndsText (known left : Option (List ℕ)) (entered : Entered) : Type 0 where
+pub record EndsText (keeps : Bool) (known left : Option (List ℕ)) (entered : Entered) : Type 0 where
   pub text : List ℕ
   pub same : IfSome known (λ bytes. bytes ≡ text)
   pub all : HasReadAll known left
-  pub ended : HasEnded text entered
+  pub ended : HasEnded keeps text entered
 
--- the line is that of an entry which is legal on the first graph, and the audit has come to the one and to the place after it
-pub record IsNext (g : ProtectionGraph) (at : ℕ) (line : List ℕ) (audit : AuditState) : Type 0 where
-  pub entry : Entry
+-- the line is that of this entry, which is legal on the first graph, and the audit has come to the one and to the place after it
+pub record IsNext (g : ProtectionGraph) (at : ℕ) (line : List ℕ) (audit : AuditState) (entry : Entry) : Type 0 where
   pub line_is : line ≡ entry_text entry
   pub passes : Passes g (entry ∷ []) audit
   pub place : audit.at ≡ at + 1
 
--- the line that begins with the bytes at hand, and goes on with those that were taken of the reader's, is one that is next
-pub record IsListedEntry (g : ProtectionGraph) (at : ℕ) (held : List ℕ) (left left' : Option (List ℕ)) (audit : AuditState) : Type 0 where
+-- the line that begins with the bytes at hand, and goes on with those that were taken of the reader's, is that of this entry, which is next
+pub record IsListedEntry (g : ProtectionGraph) (at : ℕ) (held : List ℕ) (left left' : Option (List ℕ)) (audit : AuditState) (entry : Entry) : Type 0 where
   pub rest : List ℕ
   pub taken : Consumes left left' rest
-  pub next : IsNext g at (held ++ rest) audit
+  pub next : IsNext g at (held ++ rest) audit entry
 
 -- the text is the front of an opening's
 abbrev pub HasHead : List ℕ → Head → Type 0
 HasHead text head = text ≡ opening_text head.workers head.max_vertices head.values.items head.edges.items
 
--- the text that an audit has read where it stands: nothing, parts of an opening or of a snapshot, entries, or a history that is whole
-abbrev pub HasRead : List ℕ → Stage → Type 0
-HasRead text stage.Version = text ≡ []
-HasRead text stage.Limits = text ≡ version_text
-HasRead text (stage.Opening head) = HasHead text head
-HasRead text (stage.Saved lines) = HasReadSnapshot text lines
-HasRead text (stage.Joint entered) = HasReopened text entered
-HasRead text (stage.Entries entered) = HasEntered text entered
-HasRead text (stage.Ended entered) = HasEnded text entered
-HasRead text stage.Stopped = ⊥
+-- the text that was read up to a stage: nothing, parts of an opening or of a snapshot, entries, or a history that is whole
+abbrev pub HasReadTo : Bool → List ℕ → Stage → Type 0
+HasReadTo keeps text stage.Version = text ≡ []
+HasReadTo keeps text stage.Limits = text ≡ version_text
+HasReadTo keeps text (stage.Opening head) = HasHead text head
+HasReadTo keeps text (stage.Saved lines) = HasReadSnapshot text lines
+HasReadTo keeps text (stage.Joint entered) = HasReopened keeps text entered
+HasReadTo keeps text (stage.Entries entered) = HasEntered keeps text entered
+HasReadTo keeps text (stage.Ended entered) = HasEnded keeps text entered
+HasReadTo keeps text stage.Stopped = ⊥
 
--- a line begins with the bytes at hand, and goes on with those that were taken of the reader's; the audit has read it after the text
-pub record ReadsOn (text held : List ℕ) (left left' : Option (List ℕ)) (next : Stage) : Type 0 where
+-- what contracts see of an audit of a text: whether it keeps the history that it reads, and how far it has read
+pub record AuditedText : Type 0 where
+  pub keeps : Bool
+  pub stage : Stage
+
+-- the text that an audit has read
+abbrev pub HasRead : List ℕ → AuditedText → Type 0
+HasRead text audit = HasReadTo audit.keeps text audit.stage
+
+-- a line begins with the bytes at hand, and goes on with those that were taken of the reader's; it was read after the text, up to a stage
+pub record ReadsOn (keeps : Bool) (text held : List ℕ) (left left' : Option (List ℕ)) (next : Stage) : Type 0 where
   pub rest : List ℕ
   pub taken : Consumes left left' rest
-  pub read : HasRead (text ++ (held ++ rest)) next
+  pub read : HasReadTo keeps (text ++ (held ++ rest)) next

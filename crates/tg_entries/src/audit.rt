@@ -1,15 +1,16 @@
 //! An audit of a text that comes line by line.
-ghost use Rattle.std.specs.Prelude.{◌≡◌, ◌++◌, [], List, ℕ, IfOk, IfSome, IsTrue, OnOk};
+ghost use Rattle.std.specs.Prelude.{◌≡◌, ◌++◌, [], Bool, List, ℕ, IfOk, IfSome, IsTrue, OnOk};
 ghost use Rattle.tg_entries.specs.declared.stage.Stage.TheVariants as Stage;
 ghost use Rattle.tg_model.specs.Graph.{ProtectionGraph};
 ghost use Rattle.tg_journal.specs.Auditing.{StandsAt};
 ghost use Rattle.tg_saved.specs.Read.{HasReadSnapshot};
-ghost use Rattle.tg_entries.specs.Read.{ReadsOn, HasEnded, HasEntered, HasHead, HasRead, HasReopened, IsNext};
+ghost use Rattle.tg_entries.specs.Read.{ReadsOn, HasEnded, HasEntered, HasHead, HasRead, HasReadTo, HasReopened, IsNext};
 ghost use Rattle.tg_saved.specs.Texts.{edge_line_text, snapshot_text};
 ghost use Rattle.tg_entries.specs.Texts.{IsAudited, deed_text, worker_text};
 
 use crate::fault::{LineFault, LongFault};
 use crate::joint::joint_line;
+use crate::kept::{HistoryStart, Means, keep};
 use crate::long::long_stage;
 use crate::part::{Part, check_part, is_reply};
 use crate::read::{deed_part, read_deed, read_limits, worker_part};
@@ -20,8 +21,8 @@ use std::io::BufRead;
 use std::marker::Model;
 use std::mem;
 use std::sync::ledger::Ledger;
-use tg_journal::Auditor;
-use tg_model::{Deed, Edge, MAX_LASTING_VERTICES, MAX_WORKERS, Opening, Value};
+use tg_journal::{Auditor, Entry};
+use tg_model::{Deed, Edge, MAX_LASTING_VERTICES, MAX_WORKERS, Opening, Reply, Value};
 use tg_saved::{SNAPSHOT_VERSION, SnapshotStage, read_edge, read_value};
 use tg_snapshot::Snapshot;
 use tg_text::{Count, Written};
@@ -30,18 +31,18 @@ use tg_text::{Count, Written};
 /// no more than subjects reach. Contracts see how far it has read.
 #[derive(Drop)]
 pub struct TextAudit<L: Ledger> {
-    alloc: Global,
+    means: Means,
     stage: Stage,
     // What was read from a line, written again.
     again: Written<L>,
 }
 
 impl<L: Ledger> Model for TextAudit<L> {
-    ghost use Rattle.tg_entries.specs.declared.stage.Stage.{Stage};
+    ghost use Rattle.tg_entries.specs.Read.{AuditedText};
 
-    ghost Value = { Stage };
+    ghost Value = { AuditedText };
 
-    ghost view = { λ a. a.stage };
+    ghost view = { λ a. record { keeps = a.means.keeps; stage = a.stage } };
 }
 
 impl<L: Ledger> TextAudit<L> {
@@ -49,10 +50,17 @@ impl<L: Ledger> TextAudit<L> {
     pub fn new(alloc: Global, failures: Count<L>) -> TextAudit<L>
         ensures { HasRead [] result }
     {
+        TextAudit::by(Means::auditing(alloc), failures)
+    }
+
+    /// An audit that has read nothing, and keeps the history that it reads, if this is asked for.
+    pub(crate) fn by(means: Means, failures: Count<L>) -> TextAudit<L>
+        ensures { result ≡ record { keeps = means.keeps; stage = Stage.Version } }
+    {
         TextAudit {
-            alloc,
+            means,
             stage: Stage::Version,
-            again: Written::new(alloc, failures),
+            again: Written::new(means.alloc, failures),
         }
     }
 
@@ -60,10 +68,11 @@ impl<L: Ledger> TextAudit<L> {
     /// of a legal history of the opening that they give. A text may end after each count line. A line at fault ends the
     /// audit. Each later line is a bad line then.
     pub fn line(&mut self, line: &[u8]) -> Result<(), LineFault>
-        ensures { (text : List ℕ) → HasRead text self.old → OnOk result (HasRead (text ++ line.now) self.new) }
+        ensures read { (text : List ℕ) → HasRead text self.old → OnOk result (HasRead (text ++ line.now) self.new) }
+        ensures keeps { self.new.keeps ≡ self.old.keeps }
     {
         let stage = mem::replace(&mut self.stage, Stage::Stopped);
-        self.stage = next_stage(self.alloc, &mut self.again, stage, line)?;
+        self.stage = next_stage(self.means, &mut self.again, stage, line)?;
         Ok(())
     }
 
@@ -75,10 +84,11 @@ impl<L: Ledger> TextAudit<L> {
         reader: &mut R,
         line: &mut Vec<u8>,
     ) -> Result<(), LongFault>
-        ensures { (text : List ℕ) → HasRead text self.old → OnOk result (ReadsOn text line.old.items (R.remaining reader.old) (R.remaining reader.new) self.new) }
+        ensures read { (text : List ℕ) → HasRead text self.old → OnOk result (ReadsOn self.old.keeps text line.old.items (R.remaining reader.old) (R.remaining reader.new) self.new.stage) }
+        ensures keeps { self.new.keeps ≡ self.old.keeps }
     {
         let stage = mem::replace(&mut self.stage, Stage::Stopped);
-        self.stage = long_stage(self.alloc, &mut self.again, stage, reader, line)?;
+        self.stage = long_stage(self.means, &mut self.again, stage, reader, line)?;
         Ok(())
     }
 
@@ -95,7 +105,7 @@ impl<L: Ledger> TextAudit<L> {
     /// The audit, if a text may end after the line that was read last. `None` if it may not. Each later line is a bad
     /// line.
     pub(crate) fn finish(&mut self) -> Option<Entered>
-        ensures { (text : List ℕ) → HasRead text self.old → IfSome result (HasEnded text) }
+        ensures { (text : List ℕ) → HasRead text self.old → IfSome result (HasEnded self.old.keeps text) }
     {
         let stage = mem::replace(&mut self.stage, Stage::Stopped);
         match stage {
@@ -107,28 +117,28 @@ impl<L: Ledger> TextAudit<L> {
 
 // Reads a line at a stage, and returns the next stage.
 fn next_stage<L: Ledger>(
-    alloc: Global,
+    means: Means,
     again: &mut Written<L>,
     stage: Stage,
     line: &[u8],
 ) -> Result<Stage, LineFault>
-    ensures { (text : List ℕ) → HasRead text stage → IfOk result (HasRead (text ++ line.now)) }
+    ensures { (text : List ℕ) → HasReadTo means.keeps text stage → IfOk result (HasReadTo means.keeps (text ++ line.now)) }
 {
     match stage {
         Stage::Version => version_line(line),
-        Stage::Limits => limits_line(alloc, again, line),
-        Stage::Opening(head) => opening_line(alloc, again, head, line),
-        Stage::Saved(lines) => snapshot_line(alloc, again, lines, line),
-        Stage::Joint(entered) => joint_line(alloc, again, entered, line),
+        Stage::Limits => limits_line(means.alloc, again, line),
+        Stage::Opening(head) => opening_line(means, again, head, line),
+        Stage::Saved(lines) => snapshot_line(means, again, lines, line),
+        Stage::Joint(entered) => joint_line(means.alloc, again, entered, line),
         Stage::Entries(entered) | Stage::Ended(entered) => {
-            entries_line(alloc, again, entered, line)
+            entries_line(means.alloc, again, entered, line)
         }
         Stage::Stopped => Err(LineFault::BadLine),
     }
 }
 
 fn version_line(line: &[u8]) -> Result<Stage, LineFault>
-    ensures { IfOk result (HasRead line.now) }
+    ensures { (keeps : Bool) → IfOk result (HasReadTo keeps line.now) }
 {
     if line == VERSION {
         Ok(Stage::Limits)
@@ -141,29 +151,31 @@ fn version_line(line: &[u8]) -> Result<Stage, LineFault>
 
 // A line of the snapshot that the history goes on from.
 fn snapshot_line<L: Ledger>(
-    alloc: Global,
+    means: Means,
     again: &mut Written<L>,
     lines: SnapshotStage,
     line: &[u8],
 ) -> Result<Stage, LineFault>
-    ensures { (text : List ℕ) → HasReadSnapshot text lines → IfOk result (HasRead (text ++ line.now)) }
+    ensures { (text : List ℕ) → HasReadSnapshot text lines → IfOk result (HasReadTo means.keeps (text ++ line.now)) }
 {
-    match lines.next(alloc, again, line)? {
-        SnapshotStage::Whole(snapshot) => Ok(Stage::Joint(reopen(alloc, &snapshot)?)),
+    match lines.next(means.alloc, again, line)? {
+        SnapshotStage::Whole(snapshot) => Ok(Stage::Joint(reopen(means, snapshot)?)),
         next => Ok(Stage::Saved(next)),
     }
 }
 
 // The audit of a history that goes on from the snapshot. Fails only when out of memory.
-fn reopen(alloc: Global, snapshot: &Snapshot) -> Result<Entered, AllocError>
-    ensures { (text : List ℕ) → text ≡ snapshot_text snapshot.now → IfOk result (HasReopened text) }
+fn reopen(means: Means, snapshot: Snapshot) -> Result<Entered, AllocError>
+    ensures { (text : List ℕ) → text ≡ snapshot_text snapshot → IfOk result (HasReopened means.keeps text) }
 {
     // Its lists are a snapshot, as this call says.
     let _ = snapshot.picture();
+    let auditor = Auditor::reopen(means.alloc, &snapshot)?;
     Ok(Entered {
-        auditor: Auditor::reopen(alloc, snapshot)?,
+        auditor,
         count: 0,
         before: None,
+        kept: means.begin(HistoryStart::Shown(snapshot)),
     })
 }
 
@@ -172,7 +184,7 @@ fn limits_line<L: Ledger>(
     again: &mut Written<L>,
     line: &[u8],
 ) -> Result<Stage, LineFault>
-    ensures { (text : List ℕ) → HasRead text Stage.Limits → IfOk result (HasRead (text ++ line.now)) }
+    ensures { (keeps : Bool) (text : List ℕ) → HasReadTo keeps text Stage.Limits → IfOk result (HasReadTo keeps (text ++ line.now)) }
 {
     let (workers, max_vertices) = read_limits(alloc, line)?;
     if !may_open(workers, max_vertices) {
@@ -201,16 +213,16 @@ fn may_open(workers: u64, max_vertices: u64) -> bool {
 
 // A line of an opening, or the first after it.
 fn opening_line<L: Ledger>(
-    alloc: Global,
+    means: Means,
     again: &mut Written<L>,
     head: Head,
     line: &[u8],
 ) -> Result<Stage, LineFault>
-    ensures { (text : List ℕ) → HasHead text head → IfOk result (HasRead (text ++ line.now)) }
+    ensures { (text : List ℕ) → HasHead text head → IfOk result (HasReadTo means.keeps (text ++ line.now)) }
 {
     let mut head = head;
     if line.starts_with(b"worker ") {
-        let value = next_value(alloc, again, line)?;
+        let value = next_value(means.alloc, again, line)?;
         add_value(&mut head, value)?;
         return Ok(Stage::Opening(head));
     }
@@ -219,8 +231,8 @@ fn opening_line<L: Ledger>(
         add_edge(&mut head, edge)?;
         return Ok(Stage::Opening(head));
     }
-    let entered = open(alloc, head)?;
-    entries_line(alloc, again, entered, line)
+    let entered = open(means, head)?;
+    entries_line(means.alloc, again, entered, line)
 }
 
 // Reads the value of the next worker from the line.
@@ -291,8 +303,8 @@ fn may_have_edge(head: &Head, edge: Edge) -> bool {
 }
 
 /// The audit of a history of the opening, where all of it came.
-pub(crate) fn open(alloc: Global, head: Head) -> Result<Entered, LineFault>
-    ensures { (text : List ℕ) → HasHead text head → IfOk result (HasEntered text) }
+pub(crate) fn open(means: Means, head: Head) -> Result<Entered, LineFault>
+    ensures { (text : List ℕ) → HasHead text head → IfOk result (HasEntered means.keeps text) }
 {
     let Head {
         workers,
@@ -303,10 +315,12 @@ pub(crate) fn open(alloc: Global, head: Head) -> Result<Entered, LineFault>
     let Ok(opening) = Opening::lasting(workers, edges, values, max_vertices) else {
         return Err(LineFault::BadLine);
     };
+    let auditor = Auditor::open(means.alloc, &opening)?;
     Ok(Entered {
-        auditor: Auditor::open(alloc, &opening)?,
+        auditor,
         count: 0,
         before: None,
+        kept: means.begin(HistoryStart::Opened(opening)),
     })
 }
 
@@ -317,7 +331,7 @@ pub(crate) fn entries_line<L: Ledger>(
     entered: Entered,
     line: &[u8],
 ) -> Result<Stage, LineFault>
-    ensures { (text : List ℕ) → HasEntered text entered → IfOk result (HasRead (text ++ line.now)) }
+    ensures { (keeps : Bool) (text : List ℕ) → HasEntered keeps text entered → IfOk result (HasReadTo keeps (text ++ line.now)) }
 {
     if line.starts_with(b"entries ") {
         return end_line(again, entered, line);
@@ -335,7 +349,7 @@ fn end_line<L: Ledger>(
     entered: Entered,
     line: &[u8],
 ) -> Result<Stage, LineFault>
-    ensures { (text : List ℕ) → HasEntered text entered → IfOk result (HasRead (text ++ line.now)) }
+    ensures { (keeps : Bool) (text : List ℕ) → HasEntered keeps text entered → IfOk result (HasReadTo keeps (text ++ line.now)) }
 {
     check_part(again, &Part::End(entered.count), line)?;
     Ok(Stage::Ended(entered))
@@ -348,17 +362,23 @@ fn entry_line<L: Ledger>(
     entered: &mut Entered,
     line: &[u8],
 ) -> Result<(), LineFault>
-    ensures { (text : List ℕ) → HasEntered text entered.old → OnOk result (HasEntered (text ++ line.now) entered.new) }
+    ensures { (keeps : Bool) (text : List ℕ) → HasEntered keeps text entered.old → OnOk result (HasEntered keeps (text ++ line.now) entered.new) }
 {
     let (worker, deed) = next_deed(alloc, again, deed_part(line))?;
     let Some(next) = entered.count.checked_add(1) else {
         return Err(LineFault::BadLine);
     };
     let at = entered.auditor.at();
-    if !is_next(again, &mut entered.auditor, worker, &deed, line)? {
+    let Some(reply) = next_reply(again, &mut entered.auditor, worker, &deed, line)? else {
         return Err(LineFault::BadEntry { at });
-    }
+    };
     entered.count = next;
+    let entry = Entry {
+        worker,
+        deed,
+        reply,
+    };
+    entered.kept = keep(entered.kept.take(), entry)?;
     Ok(())
 }
 
@@ -382,20 +402,23 @@ pub(crate) fn next_deed<L: Ledger>(
     Ok((worker, deed))
 }
 
-// Whether the line is that of the deed, which was written again, with the reply that the rules give it. Fails only when
-// out of memory.
-fn is_next<L: Ledger>(
+// The reply that the rules give the deed, if the line is that of the deed, which was written again, with this reply.
+// Fails only when out of memory.
+fn next_reply<L: Ledger>(
     again: &mut Written<L>,
     auditor: &mut Auditor,
     worker: u64,
     deed: &Deed,
     line: &[u8],
-) -> Result<bool, AllocError>
+) -> Result<Option<Reply>, AllocError>
     requires { again.old.bytes.items ≡ deed_text worker deed.now }
-    ensures { (g : ProtectionGraph) → StandsAt g auditor.old → IfOk result (λ legal. IsTrue legal → IsNext g auditor.old.at line.now auditor.new) }
+    ensures { (g : ProtectionGraph) → StandsAt g auditor.old → IfOk result (λ told. IfSome told (λ reply. IsNext g auditor.old.at line.now auditor.new (record { worker = worker; deed = deed.now; reply = reply }))) }
 {
-    match auditor.answer(worker, deed)? {
-        Some(reply) => is_reply(again, &reply, line),
-        None => Ok(false),
+    let Some(reply) = auditor.answer(worker, deed)? else {
+        return Ok(None);
+    };
+    if !is_reply(again, &reply, line)? {
+        return Ok(None);
     }
+    Ok(Some(reply))
 }

@@ -1,6 +1,6 @@
 //! The line after a snapshot, which may have the sum of the part before.
-ghost use Rattle.std.specs.Prelude.{◌≡◌, ◌++◌, List, ℕ, IfOk};
-ghost use Rattle.tg_entries.specs.Read.{HasRead, HasReopened};
+ghost use Rattle.std.specs.Prelude.{◌≡◌, ◌++◌, Bool, List, ℕ, IfOk};
+ghost use Rattle.tg_entries.specs.Read.{HasReadTo, HasReopened};
 ghost use Rattle.tg_entries.specs.Texts.{sum_text};
 
 use crate::audit::entries_line;
@@ -20,7 +20,7 @@ pub(crate) fn joint_line<L: Ledger>(
     entered: Entered,
     line: &[u8],
 ) -> Result<Stage, LineFault>
-    ensures { (text : List ℕ) → HasReopened text entered → IfOk result (HasRead (text ++ line.now)) }
+    ensures { (keeps : Bool) (text : List ℕ) → HasReopened keeps text entered → IfOk result (HasReadTo keeps (text ++ line.now)) }
 {
     if !line.starts_with(b"sha256 ") {
         return entries_line(alloc, again, entered, line);

@@ -1,37 +1,38 @@
 //! A line that is longer than any but a listing's entry, of which the front is at hand.
-ghost use Rattle.std.specs.Prelude.{◌≡◌, List, ℕ, IfOk, IsTrue};
+ghost use Rattle.std.specs.Prelude.{◌≡◌, Bool, List, ℕ, IfOk, IfSome};
 ghost use Rattle.tg_model.specs.Graph.{ProtectionGraph};
 ghost use Rattle.tg_journal.specs.Auditing.{StandsAt};
-ghost use Rattle.tg_entries.specs.Read.{ReadsOn, HasEntered, HasRead, IsListedEntry};
+ghost use Rattle.tg_entries.specs.Read.{ReadsOn, HasEntered, HasReadTo, IsListedEntry};
 ghost use Rattle.tg_entries.specs.Texts.{deed_text};
 
 use crate::audit::{next_deed, open};
 use crate::fault::{LineFault, LongFault};
+use crate::kept::{Means, keep};
 use crate::listing::is_listing;
 use crate::read::front_part;
 use crate::stage::{Entered, Stage};
 use std::alloc::Global;
 use std::io::BufRead;
 use std::sync::ledger::Ledger;
-use tg_journal::Auditor;
+use tg_journal::{Auditor, Entry};
 use tg_model::{Deed, Reply};
 use tg_text::Written;
 
 /// Returns the stage after a long line. Only an entry that lists edges may have one.
 pub(crate) fn long_stage<L: Ledger, R: BufRead>(
-    alloc: Global,
+    means: Means,
     again: &mut Written<L>,
     stage: Stage,
     reader: &mut R,
     line: &mut Vec<u8>,
 ) -> Result<Stage, LongFault>
-    ensures { (text : List ℕ) → HasRead text stage → IfOk result (ReadsOn text line.old.items (R.remaining reader.old) (R.remaining reader.new)) }
+    ensures { (text : List ℕ) → HasReadTo means.keeps text stage → IfOk result (ReadsOn means.keeps text line.old.items (R.remaining reader.old) (R.remaining reader.new)) }
 {
     match stage {
         Stage::Version => Err(LongFault::Line(LineFault::OtherVersion)),
-        Stage::Opening(head) => long_entry(alloc, again, open(alloc, head)?, reader, line),
+        Stage::Opening(head) => { long_entry(means.alloc, again, open(means, head)?, reader, line) }
         Stage::Joint(entered) | Stage::Entries(entered) | Stage::Ended(entered) => {
-            long_entry(alloc, again, entered, reader, line)
+            long_entry(means.alloc, again, entered, reader, line)
         }
         Stage::Limits | Stage::Saved(_) | Stage::Stopped => {
             Err(LongFault::Line(LineFault::BadLine))
@@ -47,7 +48,7 @@ fn long_entry<L: Ledger, R: BufRead>(
     reader: &mut R,
     line: &mut Vec<u8>,
 ) -> Result<Stage, LongFault>
-    ensures { (text : List ℕ) → HasEntered text entered → IfOk result (ReadsOn text line.old.items (R.remaining reader.old) (R.remaining reader.new)) }
+    ensures { (keeps : Bool) (text : List ℕ) → HasEntered keeps text entered → IfOk result (ReadsOn keeps text line.old.items (R.remaining reader.old) (R.remaining reader.new)) }
 {
     let mut entered = entered;
     let told = next_deed(alloc, again, front_part(line.as_slice()))?;
@@ -55,26 +56,38 @@ fn long_entry<L: Ledger, R: BufRead>(
         return Err(LongFault::Line(LineFault::BadLine));
     };
     let at = entered.auditor.at();
-    if !is_listed(again, &mut entered.auditor, &told, reader, line)? {
+    let Some(reply) = next_listing(again, &mut entered.auditor, &told, reader, line)? else {
         return Err(LongFault::Line(LineFault::BadEntry { at }));
-    }
+    };
     entered.count = next;
+    let (worker, deed) = told;
+    let entry = Entry {
+        worker,
+        deed,
+        reply,
+    };
+    entered.kept = keep(entered.kept.take(), entry)?;
     Ok(Stage::Entries(entered))
 }
 
-// Whether the line is that of the deed, which was written again, with the listing that is the rules' reply.
-fn is_listed<L: Ledger, R: BufRead>(
+// The listing that the rules give the deed. The line has to be that of the deed, which was written again, with this
+// listing.
+fn next_listing<L: Ledger, R: BufRead>(
     again: &mut Written<L>,
     auditor: &mut Auditor,
     told: &(u64, Deed),
     reader: &mut R,
     line: &mut Vec<u8>,
-) -> Result<bool, LongFault>
+) -> Result<Option<Reply>, LongFault>
     requires { again.old.bytes.items ≡ deed_text told.now.0 told.now.1 }
-    ensures { (g : ProtectionGraph) → StandsAt g auditor.old → IfOk result (λ legal. IsTrue legal → IsListedEntry g auditor.old.at line.old.items (R.remaining reader.old) (R.remaining reader.new) auditor.new) }
+    ensures { (g : ProtectionGraph) → StandsAt g auditor.old → IfOk result (λ listing. IfSome listing (λ reply.
+        IsListedEntry g auditor.old.at line.old.items (R.remaining reader.old) (R.remaining reader.new) auditor.new (record { worker = told.now.0; deed = told.now.1; reply = reply }))) }
 {
-    match auditor.answer(told.0, &told.1)? {
-        Some(Reply::Edges(edges)) => is_listing(again, edges.as_slice(), reader, line),
-        _ => Ok(false),
+    let Some(Reply::Edges(edges)) = auditor.answer(told.0, &told.1)? else {
+        return Ok(None);
+    };
+    if !is_listing(again, edges.as_slice(), reader, line)? {
+        return Ok(None);
     }
+    Ok(Some(Reply::Edges(edges)))
 }

@@ -1,5 +1,6 @@
 //! How far an audit has read.
 
+use crate::kept::History;
 use tg_journal::Auditor;
 use tg_model::{Edge, Value};
 use tg_saved::SnapshotStage;
@@ -13,12 +14,14 @@ pub struct Head {
     pub edges: Vec<Edge>,
 }
 
-/// An audit that has come to some entry, how many passed, and the sum of the part before, if its line came.
+/// An audit that has come to some entry, how many passed, the sum of the part before, if its line came, and the history
+/// so far, if it is kept.
 #[derive(Drop)]
 pub struct Entered {
     pub auditor: Auditor,
     pub count: u64,
     pub before: Option<[u8; 32]>,
+    pub kept: Option<History>,
 }
 
 /// Which line may come next.

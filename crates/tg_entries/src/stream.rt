@@ -1,10 +1,12 @@
 //! An audit of all lines of a reader.
-ghost use Rattle.std.specs.Prelude.{◌≡◌, ◌<◌, ◌++◌, [], List, ℕ, IfOk, IfSome, OnOk};
+ghost use Rattle.std.specs.Prelude.{◌≡◌, ◌<◌, ◌++◌, [], List, ℕ, Bool, IfOk, IfSome, OnOk};
 ghost use Rattle.tg_entries.specs.Read.{CanSave, EndsText, ReadsOn, HasEnded, HasRead, HasReadAll};
+ghost use Rattle.tg_entries.specs.Kept.{IsTextOf};
 ghost use Rattle.tg_entries.specs.Texts.{IsAudited, IsSavedAfter};
 
 use crate::audit::TextAudit;
 use crate::fault::{LineFault, LongFault, TextFault};
+use crate::kept::{History, Means};
 use crate::piece::{drop_front, read_some};
 use crate::read::{MOST_KEPT_BYTES, text_len};
 use crate::stage::Entered;
@@ -22,7 +24,7 @@ use tg_text::Count;
 pub fn audit_text<R: BufRead + Drop>(alloc: Global, reader: &mut R) -> Result<u64, TextFault>
     ensures { IfOk result (λ count. IfSome (R.remaining reader.old) (λ text. IsAudited text count)) }
 {
-    let entered = audit_named::<Brand, R>(alloc, Blank::new(1), reader)?;
+    let entered = audit_named::<Brand, R>(Means::auditing(alloc), Blank::new(1), reader)?;
     Ok(entered.count)
 }
 
@@ -35,17 +37,33 @@ pub fn audit_to_snapshot<R: BufRead + Drop>(
     ensures saved { IfOk result (λ snapshot. IfSome (R.remaining reader.old) (λ text. IsSavedAfter text snapshot)) }
     ensures all { OnOk result (HasReadAll (R.remaining reader.old) (R.remaining reader.new)) }
 {
-    let entered = audit_named::<Brand, R>(alloc, Blank::new(1), reader)?;
+    let entered = audit_named::<Brand, R>(Means::auditing(alloc), Blank::new(1), reader)?;
     match snapshot_after(&entered) {
         Ok(snapshot) => Ok(snapshot),
         Err(error) => Err(TextFault::Stream(error.into())),
     }
 }
 
+/// Reads the text of a history to its end, as [`audit_text`] does, and returns the history. `Ok` is returned only if
+/// the text is that of exactly this history, and the history is legal. Count lines and the sum of the part before
+/// aren't kept. Memory grows with the entries. Faults are those of `audit_text`.
+pub fn read_history<R: BufRead + Drop>(alloc: Global, reader: &mut R) -> Result<History, TextFault>
+    ensures read { IfOk result (λ history. IfSome (R.remaining reader.old) (λ text. IsTextOf text history)) }
+    ensures all { OnOk result (HasReadAll (R.remaining reader.old) (R.remaining reader.new)) }
+{
+    let entered = audit_named::<Brand, R>(Means::keeping(alloc), Blank::new(1), reader)?;
+    let Entered { kept, .. } = entered;
+    match kept {
+        Some(history) => Ok(history),
+        // An audit that is asked to keep its history does so.
+        None => unreachable!(),
+    }
+}
+
 // The snapshot of what the audit has come to. Fails only when out of memory.
 fn snapshot_after(entered: &Entered) -> Result<Snapshot, AllocError>
     requires { CanSave entered.now }
-    ensures { (text : List ℕ) → HasEnded text entered.now → IfOk result (IsSavedAfter text) }
+    ensures { (keeps : Bool) (text : List ℕ) → HasEnded keeps text entered.now → IfOk result (IsSavedAfter text) }
 {
     let shown = entered.auditor.snapshot()?;
     match shown {
@@ -57,17 +75,17 @@ fn snapshot_after(entered: &Entered) -> Result<Snapshot, AllocError>
 
 /// Reads all lines. The ledger names the audit's buffer.
 pub(crate) fn audit_named<L: Ledger, R: BufRead + Drop>(
-    alloc: Global,
+    means: Means,
     blank: Blank,
     reader: &mut R,
 ) -> Result<Entered, TextFault>
     requires name { blank.name ≡ L.name }
     requires parts { blank.parts ≡ L.parts }
     requires some { 0 < blank.parts }
-    ensures { IfOk result (EndsText (R.remaining reader.old) (R.remaining reader.new)) }
+    ensures { IfOk result (EndsText means.keeps (R.remaining reader.old) (R.remaining reader.new)) }
 {
-    let mut audit = TextAudit::<L>::new(alloc, Count::<L>::new(blank));
-    let mut line = Vec::new(alloc);
+    let mut audit = TextAudit::<L>::by(means, Count::<L>::new(blank));
+    let mut line = Vec::new(means.alloc);
     audit_lines(&mut audit, reader, &mut line)
 }
 
@@ -78,7 +96,7 @@ fn audit_lines<L: Ledger, R: BufRead + Drop>(
     line: &mut Vec<u8>,
 ) -> Result<Entered, TextFault>
     requires { HasRead [] audit.old }
-    ensures { IfOk result (EndsText (R.remaining reader.old) (R.remaining reader.new)) }
+    ensures { IfOk result (EndsText audit.old.keeps (R.remaining reader.old) (R.remaining reader.new)) }
 {
     for number in 1..u64::MAX {
         line.clear();
@@ -96,7 +114,7 @@ fn ended<L: Ledger>(
     number: u64,
     line: &[u8],
 ) -> Result<Entered, TextFault>
-    ensures { (text : List ℕ) → HasRead text audit.old → IfOk result (HasEnded (text ++ line.now)) }
+    ensures { (text : List ℕ) → HasRead text audit.old → IfOk result (HasEnded audit.old.keeps (text ++ line.now)) }
 {
     if !line.is_empty() {
         return Err(TextFault::CutOff { line: number });
@@ -114,7 +132,8 @@ fn audit_line<L: Ledger, R: BufRead>(
     reader: &mut R,
     line: &mut Vec<u8>,
 ) -> Result<(), TextFault>
-    ensures { (text : List ℕ) → HasRead text audit.old → OnOk result (ReadsOn text line.old.items (R.remaining reader.old) (R.remaining reader.new) audit.new) }
+    ensures read { (text : List ℕ) → HasRead text audit.old → OnOk result (ReadsOn audit.old.keeps text line.old.items (R.remaining reader.old) (R.remaining reader.new) audit.new.stage) }
+    ensures keeps { audit.new.keeps ≡ audit.old.keeps }
 {
     if !line.ends_with(b"\n") {
         return audit_long(audit, number, reader, line);
@@ -135,7 +154,8 @@ fn audit_long<L: Ledger, R: BufRead>(
     reader: &mut R,
     line: &mut Vec<u8>,
 ) -> Result<(), TextFault>
-    ensures { (text : List ℕ) → HasRead text audit.old → OnOk result (ReadsOn text line.old.items (R.remaining reader.old) (R.remaining reader.new) audit.new) }
+    ensures read { (text : List ℕ) → HasRead text audit.old → OnOk result (ReadsOn audit.old.keeps text line.old.items (R.remaining reader.old) (R.remaining reader.new) audit.new.stage) }
+    ensures keeps { audit.new.keeps ≡ audit.old.keeps }
 {
     match audit.long_line(reader, line) {
         Ok(()) => Ok(()),

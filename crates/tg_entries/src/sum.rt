@@ -5,6 +5,7 @@ ghost use Rattle.tg_text.specs.Sinks.{Writes};
 ghost use Rattle.tg_entries.specs.Texts.{IsAuditedAfter, IsHeadAfter, part_head_text};
 
 use crate::fault::TextFault;
+use crate::kept::Means;
 use crate::stream::{audit_named, audit_to_snapshot};
 use crate::summed::{Summed, Tape};
 use crate::write::write_sum;
@@ -38,7 +39,7 @@ pub fn audit_after<R: BufRead + Drop>(
 ) -> Result<u64, TextFault>
     ensures { IfOk result (λ count. IfSome (R.remaining reader.old) (λ text. IsAuditedAfter sum.now text count)) }
 {
-    let entered = audit_named::<Brand, R>(alloc, Blank::new(1), reader)?;
+    let entered = audit_named::<Brand, R>(Means::auditing(alloc), Blank::new(1), reader)?;
     match entered.before {
         Some(before) if before == *sum => Ok(entered.count),
         Some(_) => Err(TextFault::OtherSum),

@@ -22,3 +22,4 @@ mod saved;
 mod store;
 mod text;
 mod view;
+mod withdrawing;

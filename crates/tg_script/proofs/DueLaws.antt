@@ -94,7 +94,7 @@ runs_unbegun {takes = takes} {sink = sink} {sink' = sink'} begins streams stands
 }
 
 -- where no line came the source isn't asked again
-asked_first : (first : Option Line) (room start mid end : ℕ) → IfSome first (λ _. end ≤ mid + room + 1) → IfNone first (end ≡ mid) → mid ≤ start + 1048577 → IfSome first (λ _. mid + room ≡ start + 1048576) → end ≤ start + 1048577
+pub asked_first : (first : Option Line) (room start mid end : ℕ) → IfSome first (λ _. end ≤ mid + room + 1) → IfNone first (end ≡ mid) → mid ≤ start + 1048577 → IfSome first (λ _. mid + room ≡ start + 1048576) → end ≤ start + 1048577
 asked_first None room start mid end some none all line = omega (arith, none, all)
 asked_first (Some l) room start mid end some none all line = omega (arith, some, line)
 

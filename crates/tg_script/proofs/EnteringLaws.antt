@@ -6,7 +6,7 @@ use Rattle.std.proofs.Math.Seq.{drop-append_seam}
 use Rattle.std.specs.List.{flat_map}
 use Rattle.tg_model.specs.declared.edge.Edge.{Edge}
 use Rattle.tg_model.specs.Graph.{ProtectionGraph}
-use Rattle.tg_model.specs.Opened.{Plan, IsPlan, start_of}
+use Rattle.tg_model.specs.Opened.{Plan, IsPlan}
 use Rattle.tg_journal.specs.declared.entry.Entry.{Entry}
 use Rattle.tg_journal.specs.History.{IsLegal, graph_after}
 use Rattle.tg_store.specs.Origin.{Origin, start_at}
@@ -144,7 +144,7 @@ enters_done done s bytes t first p before left entries mid after plan h wrote =
     (h.lines, entries, h.reads, h.legal, plan, w ∙ ap Some (append_assoc before text end))
 
 -- no line is left to be told
-stops_writing : (s : Script) (bytes : List ℕ) (first : Option Line) (lines : List Line) (left : List ℕ) → ReadsCommands s bytes first lines None left → ReadsCommands s bytes first lines (Some fault.WriteFailed) left
+pub stops_writing : (s : Script) (bytes : List ℕ) (first : Option Line) (lines : List Line) (left : List ℕ) → ReadsCommands s bytes first lines None left → ReadsCommands s bytes first lines (Some fault.WriteFailed) left
 stops_writing s bytes None lines left h = (h.0, h.1, refl)
 stops_writing s bytes (Some l) lines left h =
     (h.0, h.1, reads_stop fault.WriteFailed may_stop_writing h.0 s.workers s.lines.room s.count s.opening bytes left h.2)

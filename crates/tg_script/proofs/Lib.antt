@@ -10,3 +10,4 @@ pub mod WholeLaws
 pub mod CountLaws
 pub mod OutputLaws
 pub mod MarkLaws
+pub mod GoingLaws

@@ -28,7 +28,7 @@ use Rattle.tg_script.specs.Inner.Beginning.{IsBehindEdges, ReadsFirst, plan_with
 use Rattle.tg_script.specs.Inner.Marks.{AnswersSeen, SeesMarks, SeesTold, byte_of, bytes_of, is_mark, marked, marks}
 use Rattle.tg_script.specs.Inner.Run.{Handles, MakesEntry, Shows}
 use Rattle.tg_script.specs.Inner.Supply.{values_left}
-use Rattle.tg_script.specs.Inner.Telling.{LineText, ReadsCommands, StandsTold, TellsFirst, TellsLines, entry_of_line, reply_of_line}
+use Rattle.tg_script.specs.Inner.Telling.{LineText, TellsLines, entry_of_line, reply_of_line}
 use Rattle.tg_script.proofs.CommandLaws.{Under, under_end, under_first, under_next}
 use Rattle.tg_script.proofs.EnteringLaws.{all_parts}
 use Rattle.tg_script.proofs.LinesLaws.{keeps_known}
@@ -132,7 +132,7 @@ marks_end {told = told} {before = before} {r = r} {l = l} {taken = taken} {saw =
 -- ---- the answers
 
 -- by replies
-replies_marked : (lines : List Line) (s : Scene) (log : List ℕ) (es : List Entry) → TellsLines (marks reply_of_line) s lines log es → (answers : List Answer) × AreAnswered s lines answers es × (bytes_of log ≡ flat_map answer_text answers) × (list_any is_mark log ≡ list_any says_refusal answers)
+pub replies_marked : (lines : List Line) (s : Scene) (log : List ℕ) (es : List Entry) → TellsLines (marks reply_of_line) s lines log es → (answers : List Answer) × AreAnswered s lines answers es × (bytes_of log ≡ flat_map answer_text answers) × (list_any is_mark log ≡ list_any says_refusal answers)
 replies_marked [] s log es h = ([], (refl, h.1), ap bytes_of h.0, ap (list_any is_mark) h.0)
 replies_marked (l ∷ lines) s log es h =
     let k = replies_marked lines h.1 h.2 h.3 h.7 in
@@ -145,7 +145,7 @@ replies_marked (l ∷ lines) s log es h =
     )
 
 -- by entries
-entries_marked : (lines : List Line) (s : Scene) (log : List ℕ) (es : List Entry) → TellsLines (marks entry_of_line) s lines log es → (answers : List Answer) × AreAnswered s lines answers es × (bytes_of log ≡ flat_map entry_text es) × (list_any is_mark log ≡ list_any says_refusal answers)
+pub entries_marked : (lines : List Line) (s : Scene) (log : List ℕ) (es : List Entry) → TellsLines (marks entry_of_line) s lines log es → (answers : List Answer) × AreAnswered s lines answers es × (bytes_of log ≡ flat_map entry_text es) × (list_any is_mark log ≡ list_any says_refusal answers)
 entries_marked [] s log es h = ([], (refl, h.1), ap bytes_of h.0 ∙ ap (flat_map entry_text) (sym h.1), ap (list_any is_mark) h.0)
 entries_marked (l ∷ lines) s log es h =
     let k = entries_marked lines h.1 h.2 h.3 h.7 in
@@ -159,10 +159,10 @@ entries_marked (l ∷ lines) s log es h =
     )
 
 -- the bytes of such a text are all that stands behind what was written before
-bytes_stand : (after : Option (List ℕ)) (before log text bytes : List ℕ) → after ≡ Some (before ++ bytes_of log) → Some log ≡ Some text → bytes_of text ≡ bytes → after ≡ Some (before ++ bytes)
+pub bytes_stand : (after : Option (List ℕ)) (before log text bytes : List ℕ) → after ≡ Some (before ++ bytes_of log) → Some log ≡ Some text → bytes_of text ≡ bytes → after ≡ Some (before ++ bytes)
 bytes_stand after before log text bytes stands is are = stands ∙ ap (λ (x : List ℕ). Some (before ++ bytes_of x)) (same_Some log text is) ∙ ap (λ (x : List ℕ). Some (before ++ x)) are
 
-log_sees : (saw after : Option Bool) (log text : List ℕ) (answers : List Answer) → Some log ≡ Some text → list_any is_mark text ≡ list_any says_refusal answers → SeesMarks saw log after → SeesAll saw answers after
+pub log_sees : (saw after : Option Bool) (log text : List ℕ) (answers : List Answer) → Some log ≡ Some text → list_any is_mark text ≡ list_any says_refusal answers → SeesMarks saw log after → SeesAll saw answers after
 log_sees saw after log text answers is same had = sees_all saw after log answers (ap (list_any is_mark) (same_Some log text is) ∙ same) had
 
 pub replies_seen : (saw saw' : Option Bool) (s : Script) (bytes : List ℕ) (t : Scene) (first : Option Line) (p : Plan) (begun : List Entry) (before left : List ℕ) (entries : List Entry) (after : Option (List ℕ)) → SeesTold reply_of_line s bytes t first begun before left entries after saw saw' → AnswersSeen false s bytes t first p before left after saw saw'

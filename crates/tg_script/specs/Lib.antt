@@ -3,6 +3,7 @@ pub mod Script
 pub mod Running
 pub mod Entering
 pub mod Watching
+pub mod GoingOn
 pub mod Lines
 pub mod Opening
 pub mod Whole

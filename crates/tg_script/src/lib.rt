@@ -5,7 +5,8 @@
 //! [`run_script_with`] runs a whole script. It reads a line, answers it and writes the reply before it reads the next
 //! line. A [`Collector`] makes its collections. [`run_script_one`] is the run with [`OneThread`].
 //! [`run_script_entries`] is the same run, and writes the text of its history in place of replies.
-//! [`run_script_watched`] is either run, and shows each answer to a [`Watch`].
+//! [`run_script_watched`] is either run, and shows each answer to a [`Watch`]. [`run_script_on`] is such a run on a
+//! store that exists.
 //!
 //! `tg_text` has the spelling of lines and answers, and reads bytes. This crate exports what callers need of it. Its
 //! other definitions to believe are in `specs/`. `Script` says what the answers to the lines are, and in which cases a
@@ -19,6 +20,7 @@
 mod collector;
 mod drafts;
 mod entering;
+mod going;
 mod helpers;
 pub mod laws;
 mod opening;
@@ -34,6 +36,7 @@ mod whole;
 pub use collector::{Collector, OneThread};
 pub use drafts::drafts_of;
 pub use entering::run_script_entries;
+pub use going::{RunOn, run_script_on};
 pub use helpers::Helpers;
 pub use opening::open_store;
 pub use refusals::{apply_refusal, collect_refusal, create_answer, helpers_refusal};

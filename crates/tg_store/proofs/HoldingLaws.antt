@@ -1,6 +1,6 @@
 -- Who has an edge to a vertex of those that a walk found, and who shares rights over it.
 use mathlib.Core.Bool.{true≢false}
-use Rattle.std.proofs.Common.{◌≡◌, ◌↔◌, ◌∙◌, ℕ, ◌+◌, ◌<◌, ◌&&◌, Bool, true, false, not, cond, List, [], ◌∷◌, ◌++◌, length, get_or, map, refl, sym, ap, subst, arith}
+use Rattle.std.proofs.Common.{◌≡◌, ◌↔◌, ◌∙◌, ℕ, ◌+◌, ◌<◌, ◌&&◌, Bool, true, false, not, cond, List, [], ◌∷◌, ◌++◌, length, map, refl, sym, ap, subst, arith}
 use Rattle.std.specs.Prelude.{IfOk, Some, None, Result, Ok, Err, is_some}
 use Rattle.std.specs.List.{AllPairs, Contains, filter}
 use Rattle.std.specs.List.Sorted.{IsStrictlyIncreasing}
@@ -16,11 +16,12 @@ use Rattle.tg_model.specs.Graph.{ProtectionGraph, HasEdge, IsReachable}
 use Rattle.tg_word.specs.declared.Place.{Place}
 use Rattle.tg_rows.specs.Content.{Content}
 use Rattle.tg_rows.proofs.Members.{Contains-filter, Contains-from_filter, Contains-from_map, Contains-map}
-use Rattle.tg_graph.specs.Heap.{content_of, subject_names}
+use Rattle.tg_graph.specs.Heap.{HeapState, subject_names}
+use Rattle.tg_graph.specs.Standing.{IsContentOf}
 use Rattle.tg_graph.proofs.StandingLaws.{IsReachable-IsReached, IsReached-IsReachable}
 use Rattle.tg_store.specs.Holding.{AreEdgesTo, AreHolders, common}
-use Rattle.tg_store.specs.Inner.Reaching.{AreReachedIn, edges_over, names_found, names_sharing}
-use Rattle.tg_store.specs.Store.{StoreState, IsFaithful, graph_of_store}
+use Rattle.tg_store.specs.Inner.Reaching.{AreReachedAlong, edges_over, names_found, names_sharing}
+use Rattle.tg_store.specs.Withdrawing.{AreHoldersOfSome}
 
 -- what follows of a value that is there
 pub if_ok : {T E : Type 0} {P Q : T → Type 0} (r : Result T E) → IfOk r P → ((t : T) → P t → Q t) → IfOk r Q
@@ -198,32 +199,26 @@ module _ (label : ℕ → ℕ → RightSet) (y : ℕ) where
 
 -- ---- on the graph
 
-module _ (s : StoreState) (faithful : IsFaithful s) (vertices : List (ℕ × Place)) (reached : AreReachedIn s.heap vertices) (y : ℕ) (edges : EdgesOf)
-    (are : edges ≡ edges_over (content_of s.heap).label y vertices) where
-  abbrev content : Content
-  content = content_of s.heap
-
-  abbrev graph : ProtectionGraph
-  graph = graph_of_store s
-
-  to_graph : (x : ℕ) (l : RightSet) → Contains edges (x, l) → IsReachable graph x × HasEdge graph.label x y × (l ≡ graph.label x y)
+module _ (heap : HeapState) (c : Content) (g : ProtectionGraph) (stands : IsContentOf c g) (same_subjects : g.subjects ≡ subject_names heap) (vertices : List (ℕ × Place)) (reached : AreReachedAlong heap c vertices) (y : ℕ)
+    (edges : EdgesOf) (are : edges ≡ edges_over c.label y vertices) where
+  to_graph : (x : ℕ) (l : RightSet) → Contains edges (x, l) → IsReachable g x × HasEdge g.label x y × (l ≡ g.label x y)
   to_graph x l has =
-      let is = (in_edges_over content.label y vertices x l).0 (subst (λ (es : EdgesOf). Contains es (x, l)) are has) in
-      let here = IsReachable-IsReached content graph faithful.stands (subject_names s.heap) (sym faithful.subjects) x ((reached.names x).0 is.0) in
-      let same : content.label x y ≡ graph.label x y = faithful.stands.labels x y (faithful.stands.reachable x here) in
+      let is = (in_edges_over c.label y vertices x l).0 (subst (λ (es : EdgesOf). Contains es (x, l)) are has) in
+      let here = IsReachable-IsReached c g stands (subject_names heap) same_subjects x ((reached.names x).0 is.0) in
+      let same : c.label x y ≡ g.label x y = stands.labels x y (stands.reachable x here) in
       (here, ap is_none_held (sym same) ∙ is.1, is.2 ∙ same)
 
-  of_graph : (x : ℕ) (l : RightSet) → IsReachable graph x × HasEdge graph.label x y × (l ≡ graph.label x y) → Contains edges (x, l)
+  of_graph : (x : ℕ) (l : RightSet) → IsReachable g x × HasEdge g.label x y × (l ≡ g.label x y) → Contains edges (x, l)
   of_graph x l is =
-      let same : content.label x y ≡ graph.label x y = faithful.stands.labels x y (faithful.stands.reachable x is.0) in
-      let found = (reached.names x).1 (IsReached-IsReachable content graph faithful.stands (subject_names s.heap) (sym faithful.subjects) x is.0) in
+      let same : c.label x y ≡ g.label x y = stands.labels x y (stands.reachable x is.0) in
+      let found = (reached.names x).1 (IsReached-IsReachable c g stands (subject_names heap) same_subjects x is.0) in
       subst (λ (es : EdgesOf). Contains es (x, l)) (sym are)
-      ((in_edges_over content.label y vertices x l).1 (found, ap is_none_held same ∙ is.1, is.2 ∙ sym same))
+      ((in_edges_over c.label y vertices x l).1 (found, ap is_none_held same ∙ is.1, is.2 ∙ sym same))
 
   -- those of the vertices that a walk reached are those of the graph
-  pub edges_to_are : AreEdgesTo graph y edges
+  pub edges_to_are : AreEdgesTo g y edges
   edges_to_are = record {
-    rising = subst Rising (sym are) (edges_over-rise content.label y vertices reached.rise);
+    rising = subst Rising (sym are) (edges_over-rise c.label y vertices reached.rise);
     each = λ x l. (to_graph x l, of_graph x l);
   }
 
@@ -266,3 +261,7 @@ holders_are g y edges to x names are =
         λ is. (sharing_are g y edges to (only x) n).1 (is.0, true_not_false (is_none_held (common (only x) (g.label n y))) (shares-only x (g.label n y) ∙ is.1)),
       );
     })
+
+-- who of them has some of several rights holds some
+pub some_holders_are : (g : ProtectionGraph) (y : ℕ) (edges : EdgesOf) → AreEdgesTo g y edges → (rights : RightSet) (names : List ℕ) → names ≡ names_sharing rights edges → AreHoldersOfSome g rights y names
+some_holders_are g y edges to rights names are = subst (AreHoldersOfSome g rights y) (sym are) (record { rising = sharing_rise g y edges to rights; each = sharing_are g y edges to rights })

@@ -16,6 +16,8 @@ mod PictureLaws
 mod SavedLaws
 mod LeaveLaws
 mod HandLaws
+mod WithdrawLaws
+mod LeftLaws
 pub mod BatchLaws
 mod AuditLaws
 mod AgainLaws

@@ -36,7 +36,7 @@ use Rattle.tg_rows.proofs.Members.{Contains-cases, Contains-here, Contains-more,
 use Rattle.tg_graph.specs.Heap.{HeapState, content_of, subject_names}
 use Rattle.tg_graph.specs.Standing.{IsReached}
 use Rattle.tg_graph.proofs.StandingLaws.{IsReachable-IsReached, IsReached-IsReachable}
-use Rattle.tg_store.specs.Inner.Reaching.{AreBelow, AreReachedIn, IsFoundIn, names_found}
+use Rattle.tg_store.specs.Inner.Reaching.{AreBelow, AreReachedAlong, AreReachedIn, IsFoundIn, names_found}
 use Rattle.tg_store.specs.Inner.Saving.{ShowsEdges, ShowsValues}
 use Rattle.tg_store.specs.Origin.{start_at, start_shown}
 use Rattle.tg_store.specs.Store.{StoreState, IsFaithful, graph_of_store}
@@ -252,8 +252,8 @@ module _ (heap : HeapState) (found : FoundVertices) (vs : List (ℕ × Place)) (
       strictly : {a b : ℕ} → a ≤ b → (a ≡ b → ⊥) → a < b
       strictly le apart = omega (arith, le, apart)
 
-  pub reached_sorted : IsNonDecreasingBy (λ v. v.0) vs → ((x : ℕ) → Contains (names_found found.vertices.items) x ↔ IsReached (content_of heap) (subject_names heap) x) → AreReachedIn heap vs
-  reached_sorted sorted reached = record {
+  pub reached_sorted : (c : Content) → IsNonDecreasingBy (λ v. v.0) vs → ((x : ℕ) → Contains (names_found found.vertices.items) x ↔ IsReached c (subject_names heap) x) → AreReachedAlong heap c vs
+  reached_sorted c sorted reached = record {
     placed = λ k d low.
         All-contains (λ (v : ℕ × Place). IsVertexAt heap.table.spaces v.0 v.1) found.vertices.items (get_or vs k d) is.placed
         (Contains-permutation vs found.vertices.items (get_or vs k d) (IsPermutation-sym found.vertices.items vs permuted) (Contains-get_or vs k d low));

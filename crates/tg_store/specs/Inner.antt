@@ -4,3 +4,4 @@ pub mod Entering
 pub mod Handing
 pub mod Reaching
 pub mod Saving
+pub mod Withdrawing

@@ -1,9 +1,16 @@
 //! Laws of the definitions in which contracts speak of stores. A function here does nothing. Its `ensures` is the law.
-ghost use Rattle.std.specs.Prelude.{◌≡◌, ◌↔◌, None};
-ghost use Rattle.tg_model.specs.Graph.{ProtectionGraph};
+ghost use Rattle.std.specs.Prelude.{◌≡◌, ◌≢◌, ◌↔◌, ◌⊎◌, ◌<◌, [], ℕ, List, None, false, true};
+ghost use Rattle.std.specs.List.{Contains};
+ghost use Rattle.tg_rights.specs.RightSet.{RightSet, has, is_none_held};
+ghost use Rattle.tg_rights.specs.declared.Right.{Right};
+ghost use Rattle.tg_model.specs.Graph.{ProtectionGraph, IsSound, IsSubject};
+ghost use Rattle.tg_journal.specs.declared.entry.Entry.{Entry};
+ghost use Rattle.tg_journal.specs.History.{IsLegal, graph_after};
+ghost use Rattle.tg_store.specs.Holding.{common};
 ghost use Rattle.tg_store.specs.declared.handing.Hand.{Hand};
 ghost use Rattle.tg_store.specs.Handing.{MayHand, denied_in_hand};
 ghost use Rattle.tg_store.specs.Store.{StandsFor};
+ghost use Rattle.tg_store.specs.Withdrawing.{AreHoldersOfSome, withdrawn};
 
 use crate::store::Store;
 use tg_payload::Payload;
@@ -19,4 +26,22 @@ pub fn stands_for_one_graph<P: Payload>(_store: &Store<P>)
 /// there, and the grant isn't denied after the take.
 pub fn a_hand_is_denied_unless_it_is_allowed()
     ensures { (g : ProtectionGraph) (h : Hand) → MayHand g h ↔ (denied_in_hand g.label g.value h ≡ None) }
+{}
+
+/// Suppose that no vertex that is reached holds one of the rights over y, which was made. Then no legal history brings
+/// one of the rights over y back to a vertex that is reached. A withdrawal that reports nobody leaves such a graph.
+pub fn withdrawn_rights_never_come_back()
+    ensures { (g : ProtectionGraph) (rights : RightSet) (y : ℕ) (es : List Entry) → IsSound g → y < g.made →
+        AreHoldersOfSome g rights y [] → IsLegal g es → AreHoldersOfSome (graph_after g es) rights y [] }
+{}
+
+/// What a withdrawal does to labels, in plain words. An active subject outside of `keep` holds none of the rights over
+/// y afterwards. Each label of another vertex stays, and each label over another vertex. No other right changes.
+pub fn a_withdrawal_takes_exactly_these_rights()
+    ensures givers { (g : ProtectionGraph) (y : ℕ) (rights : RightSet) (keep : List ℕ) (x : ℕ) → IsSubject g x → ¬ Contains keep x →
+        is_none_held (common rights ((withdrawn g y rights keep).label x y)) ≡ true }
+    ensures others { (g : ProtectionGraph) (y : ℕ) (rights : RightSet) (keep : List ℕ) (a b : ℕ) → (b ≢ y) ⊎ (Contains keep a ⊎ (¬ IsSubject g a)) →
+        (withdrawn g y rights keep).label a b ≡ g.label a b }
+    ensures rest { (g : ProtectionGraph) (y : ℕ) (rights : RightSet) (keep : List ℕ) (a b : ℕ) (right : Right) → has rights right ≡ false →
+        has ((withdrawn g y rights keep).label a b) right ≡ has (g.label a b) right }
 {}

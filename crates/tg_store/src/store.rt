@@ -10,6 +10,8 @@ mod leave;
 mod picture;
 mod reopen;
 mod snapshot;
+mod withdraw;
+mod withdrawal;
 
 use crate::answer::answer_command;
 use crate::census::{Census, Collections};

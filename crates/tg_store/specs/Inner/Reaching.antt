@@ -52,11 +52,15 @@ pub record IsReachedEdgeOf (c : Content) (subjects : List ℕ) (edge : Edge) : T
   pub from : IsReached c subjects edge.from
   pub is : IsEdgeOf c.label edge
 
--- these vertices of the heap, by rising name, are exactly those that its subjects reach
-pub record AreReachedIn (heap : HeapState) (vertices : List (ℕ × Place)) : Type 0 where
+-- these vertices of the heap, by rising name, are exactly those that its subjects reach along the edges of a content
+pub record AreReachedAlong (heap : HeapState) (c : Content) (vertices : List (ℕ × Place)) : Type 0 where
   pub placed : All (λ v. IsVertexAt heap.table.spaces v.0 v.1) vertices
   pub rise : AllPairs (λ v w. v.0 < w.0) vertices
-  pub names : (x : ℕ) → Contains (names_found vertices) x ↔ IsReached (content_of heap) (subject_names heap) x
+  pub names : (x : ℕ) → Contains (names_found vertices) x ↔ IsReached c (subject_names heap) x
+
+-- along the edges of its own
+abbrev pub AreReachedIn : HeapState → List (ℕ × Place) → Type 0
+AreReachedIn heap = AreReachedAlong heap (content_of heap)
 
 -- the edges to y of these vertices, in their order, each with the name of its vertex
 abbrev pub edges_over : (ℕ → ℕ → RightSet) → ℕ → List (ℕ × Place) → List (ℕ × RightSet)

@@ -70,8 +70,12 @@ fn edges_of_each<P: Payload>(
     Ok(edges)
 }
 
-// The names in these edges whose label has some of the rights, in their order. Fails only when out of memory.
-fn holders_in(alloc: Global, edges: &[(u64, Label)], rights: Rights) -> Result<Vec<u64>, AllocError>
+/// The names in these edges whose label has some of the rights, in their order. Fails only when out of memory.
+pub(crate) fn holders_in(
+    alloc: Global,
+    edges: &[(u64, Label)],
+    rights: Rights,
+) -> Result<Vec<u64>, AllocError>
     ensures { IfOk result (λ names. names.items ≡ names_sharing rights edges.now) }
 {
     let mut names = Vec::new(alloc);
@@ -83,8 +87,8 @@ fn holders_in(alloc: Global, edges: &[(u64, Label)], rights: Rights) -> Result<V
     Ok(names)
 }
 
-// The rights that are in both sets, if there are any.
-fn rights_shared(some: Rights, others: Rights) -> Option<Label>
+/// The rights that are in both sets, if there are any.
+pub(crate) fn rights_shared(some: Rights, others: Rights) -> Option<Label>
     ensures { result ≡ label_of (common some others) }
 {
     Label::new(some.minus(some.minus(others)))

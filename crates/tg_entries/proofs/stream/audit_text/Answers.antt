@@ -6,4 +6,4 @@ pub returns : goal.returns
 returns g c =
     let e = c.in_ok-entered.ensures in
     let entered = c.in_ok-entered.entered in
-    known_text _ (λ text. IsAudited text entered.count) e.text e.same (audited_ended e.text entered e.ended)
+    known_text _ (λ text. IsAudited text entered.count) e.text e.same (audited_ended _ e.text entered e.ended)

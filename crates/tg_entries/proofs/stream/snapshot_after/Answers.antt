@@ -8,6 +8,6 @@ unreachable-requires c =
     false≢true (rw c.in-None.is at h)
 
 pub returns : goal.returns
-returns c = λ text was.
-    saved_ended text c.args.entered.now c.in-Some.snapshot was
+returns c = λ keeps text was.
+    saved_ended keeps text c.args.entered.now c.in-Some.snapshot was
     (λ h come. rw c.in-Some.is at (c.in_ok-shown.ensures.of h come)) (rw c.in-Some.is at c.in_ok-shown.ensures.place)

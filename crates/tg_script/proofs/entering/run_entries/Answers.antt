@@ -1,7 +1,7 @@
-use Rattle.std.proofs.Common.{ap, arith, subst, Err, true, List, ℕ}
+use Rattle.std.proofs.Common.{ap, arith, subst, Err, true}
 use Rattle.tg_model.specs.Opened.{Plan}
 use Rattle.tg_store.specs.Origin.{Origin}
-use Rattle.tg_script.specs.Inner.Beginning.{plan_with, scene_with}
+use Rattle.tg_script.specs.Inner.Beginning.{scene_with}
 use Rattle.tg_script.specs.Inner.Marks.{AnswersSeen}
 use Rattle.tg_script.specs.Inner.Telling.{EntersAll}
 use Rattle.tg_script.specs.Script.{start_of_setup}

@@ -23,4 +23,4 @@ returns g c = λ graph stands.
     let reached = subst (AreReachedIn store.heap) (sym c.as_slice.ensures.value) c.in_ok-reached.ensures in
     if_ok c.edges_of_each.result c.edges_of_each.ensures
     (λ edges is. subst (λ (h : ProtectionGraph). AreEdgesTo h c.args.name edges.items) (ap graph_of_store c.self.view_is ∙ stands)
-    (edges_to_are store c.self.invariant.faithful c.as_slice.result.now reached c.args.name edges.items is))
+    (edges_to_are store.heap (content_of store.heap) (graph_of_store store) c.self.invariant.faithful.stands (sym c.self.invariant.faithful.subjects) c.as_slice.result.now reached c.args.name edges.items is))

@@ -1,0 +1,5 @@
+pub mod KeepingLaws
+pub mod PrintLaws
+pub mod RunLaws
+pub mod ServingLaws
+pub mod TextLaws

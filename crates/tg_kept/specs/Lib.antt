@@ -1,0 +1,4 @@
+pub mod Keeping
+pub mod Runs
+pub mod Said
+pub mod Texts

@@ -1,0 +1,39 @@
+//! A store that is kept in a file.
+//!
+//! A [`Kept`] has a store and the file of its history. The file's lines are those of a history's text: the opening, and
+//! a line for each entry. Whoever holds a `Kept` knows that each entry of its store is on the disk. So its store may be
+//! asked anything.
+//!
+//! ```text
+//!     kept.serve(worker, commands)
+//!         |  the store takes the commands             no reply is handed out yet
+//!         |  the lines of the entries that they made
+//!         |  one write and one sync
+//!         +--> Ok: the same Kept, with the replies in its journal
+//!         +--> Err(Lost): no store, and no reply
+//! ```
+//!
+//! A batch of commands is served by a call that takes the `Kept` and hands it back once the batch is on the disk. If
+//! the file fails, [`Lost`] comes back in its place. Then the store is gone, and the file has all that was answered
+//! before.
+//!
+//! | Call | What it does |
+//! |---|---|
+//! | [`Kept::begin`] | begins the file of a store that was just opened |
+//! | [`Kept::serve`] | takes a worker's commands, and puts the lines of their entries into the file |
+//! | [`Kept::serve_all`] | serves batch after batch |
+//! | [`Kept::store`] | lends the store, of which each entry is on the disk |
+//! | [`entry_lines`], [`opening_lines`] | the lines of entries, and of an opening, as a batch of `tg_keep` |
+#![tactic(auto)]
+
+mod kept;
+pub mod laws;
+mod lines;
+mod lost;
+mod put;
+mod run;
+
+pub use kept::{Kept, Served};
+pub use lines::{entry_lines, opening_lines};
+pub use lost::Lost;
+pub use run::{Asked, Returned};
