@@ -1,5 +1,5 @@
 -- What a feed of an audit came to.
-use Rattle.std.proofs.Common.{◌≡◌, ◌-◌, ℕ, List, Result, Ok, Err, refl, sym, ap, subst, take, drop}
+use Rattle.std.proofs.Common.{◌≡◌, ◌-◌, ℕ, List, Result, Ok, Err, sym, subst, take, drop}
 use Rattle.std.proofs.lemmas.List.{take-append-drop}
 use Rattle.tg_model.specs.Graph.{ProtectionGraph}
 use Rattle.tg_journal.specs.declared.auditor.PartFault.{PartFault}
@@ -10,7 +10,6 @@ use Rattle.tg_journal.specs.History.{IsFirstBad, IsLegal, graph_after}
 use Rattle.tg_journal.specs.Live.{AuditState}
 use Rattle.tg_journal.proofs.HistoryLaws.{IsFirstBad-not_legal, IsLegal-cut}
 use Rattle.tg_c.specs.Audits.{told_of_feed}
-use Rattle.tg_c.specs.declared.refusal.CallRefusal.{CallRefusal}
 use Rattle.tg_c.specs.declared.refusal.CallRefusal.TheVariants as refusal
 
 -- in a legal history no entry after a place is the first bad one

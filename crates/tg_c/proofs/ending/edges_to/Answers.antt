@@ -1,4 +1,4 @@
-use Rattle.std.proofs.Common.{◌∙◌, sym, ap, refl, Result, Ok, Err, ℕ, List, length}
+use Rattle.std.proofs.Common.{◌∙◌, sym, ap, refl, Ok, Err, length}
 use Rattle.std.proofs.lemmas.Result.{err_from_is_err_and}
 use Rattle.tg_c.specs.declared.refusal.CallRefusal.TheVariants as refusal
 use Rattle.tg_c.specs.Ending.{AreEdgesShown, AreToldEdgesTo}
@@ -17,7 +17,7 @@ returns-in_err-found c =
 pub returns : goal.returns
 returns c =
     let store = c.deref.result.now.store in
-    let edges = c.in_ok-found.found-2.items in
+    let edges = c.in_ok-found.found.items in
     served_as (λ why. why) (AreToldEdgesTo c.args.name) c.args.place.now c.put.new.self (AreEdgesShown c.args.into.now c.put_edges.new.out (Ok (length c.as_slice-edges.result.now))) store store (Ok edges)
     c.in-Some.ensures.taken.0 c.put.ensures.open (sym (ap (λ s. s.store) (c.deref.ensures ∙ c.in-Some.ensures.taken.1))) (ap (λ s. s.store) (c.put.ensures.opened ∙ sym c.deref.ensures))
     (ap (λ xs. Ok (length xs)) c.as_slice-edges.ensures.value, c.put_edges.ensures ∙ ap (λ xs. edges_shown_in xs c.args.into.now) c.as_slice-edges.ensures.value)

@@ -1,4 +1,4 @@
-use Rattle.std.proofs.Common.{◌≡◌, ◌∙◌, sym, ap, Result, Ok, Err, ℕ}
+use Rattle.std.proofs.Common.{◌∙◌, sym, ap, Ok, Err}
 use Rattle.std.proofs.lemmas.Result.{err_from_is_err_and}
 use Rattle.tg_c.specs.Ending.{Departs}
 use Rattle.tg_c.specs.Statuses.{of_apply, refused_as}

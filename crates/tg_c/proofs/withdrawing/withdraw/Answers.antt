@@ -1,4 +1,4 @@
-use Rattle.std.proofs.Common.{◌∙◌, sym, ap, refl, Result, Ok, Err, List, ℕ, length}
+use Rattle.std.proofs.Common.{◌∙◌, sym, ap, refl, Ok, Err, length}
 use Rattle.std.proofs.lemmas.Result.{err_from_is_err_and}
 use Rattle.tg_graph.specs.Shown.{shown_in}
 use Rattle.tg_c.specs.declared.refusal.CallRefusal.TheVariants as refusal
@@ -17,7 +17,7 @@ returns-in_err-left c =
 
 pub returns : goal.returns
 returns c =
-    let names = c.in_ok-left.left-2.items in
+    let names = c.in_ok-left.left.items in
     served_as (λ why. why) (IsWithdrawalAnswered c.args.over.target c.args.over.rights c.args.keep.now) c.args.place.now c.put.new.self
     (IsShown c.args.into.now c.put_numbers.new.out (Ok (length c.as_slice-names.result.now)))
     c.deref_mut.result.now.store c.withdraw-left.new.self (Ok names)
