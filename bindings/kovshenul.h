@@ -6,9 +6,10 @@
    allow it, unless the call is refused, for example if memory runs out. At most 64 workers are active at a time. No name is used
    twice.
 
-   Each call returns a status. The library's exports have contracts, which are proved (crates/tg_c/specs). They say what a
-   status below 16 means, and when each other status comes, with two exceptions. TG_OUT_OF_MEMORY may come from each call that
-   needs memory. TG_HEAP_FULL comes only where the limits may leave no room. Only of tg_open is it proved too that it comes there.
+   Each call whose type is tg_status returns a status. The library's exports have contracts, which are proved
+   (crates/tg_c/specs). They say what TG_DONE and TG_DENIED mean, and when each refusal comes, with two exceptions.
+   TG_OUT_OF_MEMORY may come from each call that needs memory. TG_HEAP_FULL comes only where the limits may leave no room. Only of
+   tg_open is it proved too that it comes there.
    The files kovshenul.c, naming.c and showing.c come before the exports, and are tested and not proved. They have the use of
    NULL, tg_apply_all (which makes proved calls one after the other), the texts, tg_snapshot_next and tg_version. Nothing checks
    what this header asks of its caller.
@@ -344,9 +345,9 @@ tg_status tg_leave(tg_store *store, uint64_t worker, uint64_t *count);
 tg_status tg_who_holds(tg_store *store, uint64_t right, uint64_t name, uint64_t *names, size_t room, uint64_t *count);
 
 /* Lists the edges to the vertex with this name, of all vertices that a worker reaches, by rising name of the vertex from which each
-   leads. In each, `to` is this vertex, and the rights are those that it holds over the one that is asked about. The first `room` of
-   them go to edges. How many there are goes to *count. A vertex that was never made has no edge. The journal gets no entry. Time and
-   memory follow what the workers reach. So a host finds who holds on to a worker that left. */
+   leads. In each, `to` is the vertex that holds the rights, at which the edge begins. The rights are those over `name`. The first
+   `room` of them go to edges. How many there are goes to *count. A vertex that was never made has no edge. The journal gets no
+   entry. Time and memory follow what the workers reach. So a host finds who holds on to a worker that left. */
 tg_status tg_edges_to(tg_store *store, uint64_t name, tg_target *edges, size_t room, uint64_t *count);
 
 /* Withdraws rights over a target. Each worker with a name outside of `keep` removes what it holds of the rights. Each remove has

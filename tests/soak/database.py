@@ -259,6 +259,7 @@ def main():
     words.add_argument("--sqlite", action="store_true")
     given = words.parse_args()
     sys.stdout.reconfigure(line_buffering=True)
+    signal.signal(signal.SIGTERM, lambda *_: sys.exit("ended"))
     rng, folder = random.Random(given.seed), Path(tempfile.mkdtemp(prefix="kovshenul-"))
     try:
         over_sqlite(given, rng, folder)

@@ -30,11 +30,12 @@ COMMANDS = (
     "retire",
     "spawn",
     "take",
+    "withdraw",
     "write",
 )
 
 # The questions, whose answers show what commands did.
-QUESTIONS = ("census", "could", "entries", "entry", "label", "names", "subjects", "view", "who_holds")
+QUESTIONS = ("census", "could", "edges_to", "entries", "entry", "label", "names", "subjects", "view", "who_holds")
 
 
 class Guard:

@@ -384,6 +384,7 @@ class Cases:
             "take": (0, 1, note, READ),
             "grant": (0, 1, note, READ),
             "remove": (0, note, READ),
+            "withdraw": (note, READ),
             "hand": (0, 0, 1, note, READ),
             "create": (0, READ, Cell(0)),
             "spawn": (0, READ, Cell(0)),

@@ -16,7 +16,7 @@ use tg_shared::{Blanks, Keeper, Round, Session, Shared, SharedStore, close, clos
 use tg_store::Store;
 
 /// What is done in a round, and how the store is taken back.
-#[derive(Clone, Copy, PartialEq, Eq)]
+#[derive(Clone, Copy)]
 pub(crate) enum RoundWay {
     /// two sessions hand rights on in turns, and the store is closed
     Hands,

@@ -34,8 +34,8 @@ const TWO_ENTRIES: Portion = Portion {
 };
 
 // What is seen of the two clients. The first is whether each of them makes its vertices, and the second what the first
-// client then lacks for another. The next is how many edges it gives up by a leave that it can't pay for, and by one
-// that it can pay for. The last is the entries that its purse has.
+// client then lacks for another. The next is how many edges it gives up by a leave that it can't pay for, and by a
+// leave that it can pay for. The last is the entries that its purse has.
 type ClientsSeen = ([bool; 3], Option<Lack>, [Option<u64>; 2], u64);
 
 // What is seen of the clients, how many entries the closed store has, and what else is counted of it.
