@@ -6,7 +6,7 @@ from typing import Iterable, Iterator, List, Optional, Set, Tuple, Type, TypeVar
 
 from ._backend import back_end
 from ._held import Held
-from ._library import number_in, short_of
+from ._library import BITS, number_in, short_of
 from ._marks import Marked
 from ._packed import bytes_of, commands_in, entry_in, limits_in, opening_in, scene_in, value_in
 from ._refusals import BadPlace, Denied, Refused, refusal
@@ -204,7 +204,8 @@ class Store(Held, Marked):
     def edges_to(self, name: int) -> List[Edge]:
         """Returns the edges to the vertex with this name, of all that a worker reaches, by rising name of the vertex from which each
         leads. A vertex that was never made has none. The journal gets no entry. So a host finds who holds on to a worker that left."""
-        return [Edge(source, name, rights) for source, rights in self._place.edges_to(name)]
+        target = number_in(BITS, name)
+        return [Edge(source, target, rights) for source, rights in self._place.edges_to(target)]
 
     def subjects(self) -> List[int]:
         """Returns the names of the active workers, rising. The journal gets no entry."""
