@@ -63,6 +63,7 @@ impl Limit {
 }
 
 /// The deed of making a vertex, with a copy of the value's state, once the journal has room for its entry.
+#[inline(always)]
 pub(crate) fn deed_to_enter(
     alloc: Global,
     journal: &mut TalliedJournal,
