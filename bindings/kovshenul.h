@@ -115,8 +115,7 @@ enum {
     TG_BAD_WORKERS = 80,      /* tg_open: not from 1 to 64 workers; tg_reopen: the snapshot has no worker */
     TG_BAD_LIMITS = 81,       /* tg_open, tg_reopen: a limit is out of its range, or isn't the snapshot's; tg_apply_all: more than 1,024 commands */
     TG_BAD_EDGE = 82,         /* an edge from a vertex to itself; tg_open: an end that is no worker; as_if: an end that no worker reaches */
-    TG_BAD_VALUES = 83,       /* tg_resume, tg_entry_text: exactly where tg_entry writes no entry so; tg_snapshot_read: no snapshot's
-                                 text. It is kept for later editions of tg_open */
+    TG_BAD_VALUES = 83,       /* tg_resume, tg_entry_text: exactly where tg_entry writes no entry so; tg_snapshot_read: no snapshot's text; tg_open: never yet */
 
     TG_BAD_ENTRY = 96,        /* tg_auditor_feed, tg_resume: the entry at its place isn't legal; tg_audit: never, if no other wrote to its memory */
     TG_BAD_PLACE = 97,        /* tg_entry, tg_forget, tg_auditor_feed: no such entry is held; tg_resume: it isn't the next; tg_answer_turn: no such turn */
