@@ -2,6 +2,8 @@
 use Rattle.std.specs.Prelude.{◌≡◌, Bool, ℕ, ◌+◌, List, [], ◌∷◌, ◌++◌, length, Option, Some, None, IfSome}
 use Rattle.std.specs.Io.KnownBytes.{Consumes}
 use Rattle.tg_model.specs.Graph.{ProtectionGraph}
+use Rattle.tg_model.specs.declared.command.Deed.{Deed}
+use Rattle.tg_model.specs.declared.reply.Reply.{Reply}
 use Rattle.tg_journal.specs.declared.entry.Entry.{Entry}
 use Rattle.tg_journal.specs.Auditing.{Passes, StandsAt}
 use Rattle.tg_journal.specs.Live.{AuditState}
@@ -70,6 +72,10 @@ pub record IsNext (g : ProtectionGraph) (at : ℕ) (line : List ℕ) (audit : Au
   pub line_is : line ≡ entry_text entry
   pub passes : Passes g (entry ∷ []) audit
   pub place : audit.at ≡ at + 1
+
+-- the entry of a worker's deed that was answered so
+abbrev pub entry_with : ℕ × Deed → Reply → Entry
+entry_with told reply = record { worker = told.0; deed = told.1; reply = reply }
 
 -- the line that begins with the bytes at hand, and goes on with those that were taken of the reader's, is that of this entry, which is next
 pub record IsListedEntry (g : ProtectionGraph) (at : ℕ) (held : List ℕ) (left left' : Option (List ℕ)) (audit : AuditState) (entry : Entry) : Type 0 where

@@ -123,6 +123,10 @@ origin_text (Joined p sum) = part_head_text p sum
 abbrev pub uncounted_text : TextStart → List Entry → List ℕ
 uncounted_text origin es = (origin_text origin ++ flat_map entry_text es) ++ end_text (length es)
 
+-- a text that has the lines of these entries, with the lines of more entries and the number of all of them after it
+abbrev pub text_gone_on : List ℕ → List Entry → List Entry → List ℕ
+text_gone_on text es more = text ++ (flat_map entry_text more ++ end_text (length es + length more))
+
 -- The text is that of these entries after their origin, of which they are a legal history. Its last line has their number.
 pub record IsHistory (text : List ℕ) (origin : TextStart) (entries : List Entry) : Type 0 where
   pub body : List ℕ

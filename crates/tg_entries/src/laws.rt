@@ -1,9 +1,8 @@
 //! Laws of the definitions alone. Each function does nothing. Its `ensures` is the law.
-ghost use Rattle.std.specs.Prelude.{◌++◌, ◌+◌, length, List, ℕ};
-ghost use Rattle.std.specs.List.{flat_map};
+ghost use Rattle.std.specs.Prelude.{◌++◌, List, ℕ};
 ghost use Rattle.tg_journal.specs.declared.entry.Entry.{Entry};
 ghost use Rattle.tg_journal.specs.History.{IsLegal, graph_after};
-ghost use Rattle.tg_entries.specs.Texts.{Joined, Shown, IsHistory, TextStart, end_text, entry_text, graph_of_origin, uncounted_text};
+ghost use Rattle.tg_entries.specs.Texts.{Joined, Shown, IsHistory, TextStart, graph_of_origin, text_gone_on, uncounted_text};
 ghost use Rattle.tg_snapshot.specs.Snapshot.{Saved};
 
 /// Count lines say nothing of the history. A text without all of them but the last is the text of the same entries.
@@ -24,5 +23,5 @@ pub fn a_sum_may_go()
 pub fn a_text_goes_on()
     ensures { (text : List ℕ) (origin : TextStart) (es more : List Entry) → IsHistory text origin es →
         IsLegal (graph_after (graph_of_origin origin) es) more →
-        IsHistory (text ++ (flat_map entry_text more ++ end_text (length es + length more))) origin (es ++ more) }
+        IsHistory (text_gone_on text es more) origin (es ++ more) }
 {}

@@ -2,7 +2,7 @@
 ghost use Rattle.std.specs.Prelude.{◌≡◌, Bool, List, ℕ, IfOk, IfSome};
 ghost use Rattle.tg_model.specs.Graph.{ProtectionGraph};
 ghost use Rattle.tg_journal.specs.Auditing.{StandsAt};
-ghost use Rattle.tg_entries.specs.Read.{ReadsOn, HasEntered, HasReadTo, IsListedEntry};
+ghost use Rattle.tg_entries.specs.Read.{ReadsOn, HasEntered, HasReadTo, IsListedEntry, entry_with};
 ghost use Rattle.tg_entries.specs.Texts.{deed_text};
 
 use crate::audit::{next_deed, open};
@@ -81,7 +81,7 @@ fn next_listing<L: Ledger, R: BufRead>(
 ) -> Result<Option<Reply>, LongFault>
     requires { again.old.bytes.items ≡ deed_text told.now.0 told.now.1 }
     ensures { (g : ProtectionGraph) → StandsAt g auditor.old → IfOk result (λ listing. IfSome listing (λ reply.
-        IsListedEntry g auditor.old.at line.old.items (R.remaining reader.old) (R.remaining reader.new) auditor.new (record { worker = told.now.0; deed = told.now.1; reply = reply }))) }
+        IsListedEntry g auditor.old.at line.old.items (R.remaining reader.old) (R.remaining reader.new) auditor.new (entry_with told.now reply))) }
 {
     let Some(Reply::Edges(edges)) = auditor.answer(told.0, &told.1)? else {
         return Ok(None);

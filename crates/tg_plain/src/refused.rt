@@ -1,11 +1,10 @@
 //! Lines that were denied or refused.
 ghost use Rattle.std.specs.Prelude.{◌≡◌, ◌++◌, OnOk};
-ghost use Rattle.tg_plain.specs.Refused.{noted, says_denial, says_refusal};
+ghost use Rattle.tg_plain.specs.Refused.{noted};
 
 use crate::script::ScriptLine;
 use std::alloc::AllocError;
-use tg_model::Reply;
-use tg_text::{Answer, Line};
+use tg_text::{Answer, Line, is_refusal};
 
 /// A line of a script that was denied or refused. It changed nothing.
 #[derive(Drop)]
@@ -34,25 +33,4 @@ pub(crate) fn note(
         })?;
     }
     Ok(())
-}
-
-// Whether the answer says that a line was denied or refused.
-fn is_refusal(answer: &Answer) -> bool
-    ensures { result ≡ says_refusal answer.now }
-{
-    match answer {
-        Answer::Reply(reply) => is_denial(reply),
-        Answer::Collected(_) => false,
-        Answer::Refused(_) => true,
-    }
-}
-
-// Whether the reply says that a command was denied, or that no vertex could be made.
-fn is_denial(reply: &Reply) -> bool
-    ensures { result ≡ says_denial reply.now }
-{
-    match reply {
-        Reply::Done | Reply::Name(_) | Reply::Values(_) | Reply::Edges(_) => false,
-        Reply::Denied(_) | Reply::VerticesFull | Reply::WorkersFull => true,
-    }
 }

@@ -13,7 +13,7 @@ use Rattle.tg_script.specs.declared.run.Run.{Run}
 use Rattle.tg_text.specs.Sinks.{Wrote, WroteSome}
 use Rattle.tg_script.specs.Entering.{entered}
 use Rattle.tg_script.specs.Script.{Scene}
-use Rattle.tg_script.specs.Lines.{ReadsFrom, PassesLine, Follows, IsBehind, IsOfReading}
+use Rattle.tg_script.specs.Lines.{ReadsFrom, PassesLine, Follows, IsRestAfter, IsOfReading}
 use Rattle.tg_script.specs.Opening.{IsCommand}
 use Rattle.tg_script.specs.Inner.Run.{Shows, Handles, MakesEntry}
 use Rattle.tg_script.specs.Inner.Supply.{values_left}
@@ -33,7 +33,7 @@ pub record Under {P : Type 0} (told : LineText) (start : Script) (bytes : List �
   pub leaves : left ≡ Some rest
   pub took : taken ≡ Some (before ++ sofar)
   pub had : r.store.entries ≡ begun ++ made
-  pub cuts : (lines : List Line) (behind cut : List ℕ) (es : List Entry) → ReadsFrom s rest lines (Some fault.WriteFailed) behind → IsBehind lines rest behind → TellsCut told scene (l ∷ lines) cut es → CutsTold told start bytes t first behind (sofar ++ cut) (made ++ es)
+  pub cuts : (lines : List Line) (behind cut : List ℕ) (es : List Entry) → ReadsFrom s rest lines (Some fault.WriteFailed) behind → IsRestAfter lines rest behind → TellsCut told scene (l ∷ lines) cut es → CutsTold told start bytes t first behind (sofar ++ cut) (made ++ es)
   pub goes_on : (lines : List Line) (end : Option ScriptFault) (behind text : List ℕ) (es : List Entry) → ReadsFrom s rest lines end behind → TellsLines told scene (l ∷ lines) text es → IsTold told start bytes t first end behind (sofar ++ text) (made ++ es)
 
 pub under_first : {P : Type 0} {told : LineText} {start : Script} {bytes : List ℕ} {t : Scene} {before : List ℕ} {r : Run P} {left taken : Option (List ℕ)} (first l : Line) → first ≡ l → Shows r t → left ≡ Some bytes → taken ≡ Some before → Under told start bytes t first r.store.entries before start r l left taken

@@ -17,7 +17,7 @@ use Rattle.tg_text.specs.Reading.{ReadsScript}
 use Rattle.tg_text.specs.Sinks.{KeepsBytes, Wrote, WroteSome}
 use Rattle.tg_entries.specs.Texts.{end_text, entry_text, head_text, history_text}
 use Rattle.tg_script.specs.declared.script.Script.{Script}
-use Rattle.tg_script.specs.Entering.{AreEntered, IsEntered, RanEntering, StandsEntered, plan_of, unended_text}
+use Rattle.tg_script.specs.Entering.{AreEntered, EntersScript, RanEntering, StandsEntered, plan_of, unended_text}
 use Rattle.tg_script.specs.Lines.{IsOfReading, ReadsFrom}
 use Rattle.tg_script.specs.Opening.{edge_lines}
 use Rattle.tg_script.specs.Inner.Beginning.{IsBehindEdges, ReadsFirst, Unbegun, plan_with, scene_with}
@@ -192,7 +192,7 @@ all_parts start t bytes rest edges (Some l) commands end left command h k =
     parts_same start bytes edges (l ∷ k.0) commands end left (sym k.1) (parts_of start t bytes rest edges l k.0 end left command.0 h k.2)
 
 -- the entries of commands are those of the script's
-is_entered : (start : Start) (lines : List Line) (edges : List Edge) (commands : List Line) (es : List Entry) → edges_of lines ≡ edges → MayAnswer start lines → AreLegal (scene_with start edges) commands es → IsEntered start lines commands es
+is_entered : (start : Start) (lines : List Line) (edges : List Edge) (commands : List Line) (es : List Entry) → edges_of lines ≡ edges → MayAnswer start lines → AreLegal (scene_with start edges) commands es → EntersScript start lines commands es
 is_entered start lines edges commands es same may h = record {
   opened = may;
   entered = subst (λ (x : List Edge). AreEntered (scene_with start x) commands es) (sym same) h.0;
@@ -204,7 +204,7 @@ stands_entered start bytes before end text edges commands es left after parts ma
   lines = parts.lines;
   entries = es;
   reads = parts.reads;
-  run = subst (λ (x : List Line). IsEntered start parts.lines x es) (sym parts.commands_are) (is_entered start parts.lines edges commands es parts.edges_are may legal);
+  run = subst (λ (x : List Line). EntersScript start parts.lines x es) (sym parts.commands_are) (is_entered start parts.lines edges commands es parts.edges_are may legal);
   stands = subst (λ (x : List Line). after ≡ Some (before ++ text (plan_of start parts.lines) x es)) (sym parts.commands_are)
       (subst (λ (x : List Edge). after ≡ Some (before ++ text (plan_with start x) commands es)) (sym parts.edges_are) stands);
 }

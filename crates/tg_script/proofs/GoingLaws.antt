@@ -19,12 +19,13 @@ use Rattle.tg_text.specs.Texts.{answer_text}
 use Rattle.tg_entries.specs.Texts.{end_text, entry_text}
 use Rattle.tg_script.specs.declared.script.Script.{Script}
 use Rattle.tg_script.specs.Entering.{entered}
-use Rattle.tg_script.specs.GoingOn.{GoesOn, GoneOn, last_text, lines_text, whole_text}
+use Rattle.tg_script.specs.GoingOn.{GoesOn, GoneOn, closing_text, answers_text, whole_text}
 use Rattle.tg_script.specs.Lines.{IsOfKeeping, IsOfReading}
 use Rattle.tg_script.specs.Opening.{edge_lines}
 use Rattle.tg_script.specs.Running.{Finishes}
 use Rattle.tg_script.specs.Script.{Scene, Start}
-use Rattle.tg_script.specs.Watching.{AreAnswered, SeesAll, says_refusal}
+use Rattle.tg_script.specs.Watching.{AreAnswered, SeesAll}
+use Rattle.tg_text.specs.Refusing.{says_refusal}
 use Rattle.tg_script.specs.Inner.Beginning.{IsBehindEdges, ReadsFirst, StopsAtEdges}
 use Rattle.tg_script.specs.Inner.GoingOn.{LinesGone, StandsGone}
 use Rattle.tg_script.specs.Inner.Marks.{SeesTold, bytes_of, is_mark, marks}
@@ -56,7 +57,7 @@ entries_answered (l ∷ lines) s text es h =
       h.5 ∙ ap (λ (x : List ℕ). flat_map entry_text made ++ x) k.2 ∙ sym (flat_map-append entry_text made h.3) ∙ ap (flat_map entry_text) (sym h.6),
     )
 
-answered_by : (b : Bool) (lines : List Line) (s : Scene) (text : List ℕ) (es : List Entry) → TellsLines (told_by b) s lines text es → (answers : List Answer) × AreAnswered s lines answers es × (text ≡ lines_text b answers es)
+answered_by : (b : Bool) (lines : List Line) (s : Scene) (text : List ℕ) (es : List Entry) → TellsLines (told_by b) s lines text es → (answers : List Answer) × AreAnswered s lines answers es × (text ≡ answers_text b answers es)
 answered_by false lines s text es h = replies_answered lines s text es h
 answered_by true lines s text es h = entries_answered lines s text es h
 
@@ -87,17 +88,17 @@ entries_cut_off (l ∷ m ∷ lines) s front es h =
           ∙ sym (append_assoc (flat_map entry_text made) h.2 k.1) ∙ ap (λ (x : List ℕ). x ++ k.1) (sym h.5),
     )
 
-cut_by : (b : Bool) (lines : List Line) (s : Scene) (front : List ℕ) (es : List Entry) → TellsCut (told_by b) s lines front es → (answers : List Answer) × (rest : List ℕ) × AreAnswered s lines answers es × (lines_text b answers es ≡ front ++ rest)
+cut_by : (b : Bool) (lines : List Line) (s : Scene) (front : List ℕ) (es : List Entry) → TellsCut (told_by b) s lines front es → (answers : List Answer) × (rest : List ℕ) × AreAnswered s lines answers es × (answers_text b answers es ≡ front ++ rest)
 cut_by false lines s front es h = replies_cut_off lines s front es h
 cut_by true lines s front es h = entries_cut_off lines s front es h
 
 -- the same by a text with marks
-marked_by : (b : Bool) (lines : List Line) (s : Scene) (log : List ℕ) (es : List Entry) → TellsLines (marks (told_by b)) s lines log es → (answers : List Answer) × AreAnswered s lines answers es × (bytes_of log ≡ lines_text b answers es) × (list_any is_mark log ≡ list_any says_refusal answers)
+marked_by : (b : Bool) (lines : List Line) (s : Scene) (log : List ℕ) (es : List Entry) → TellsLines (marks (told_by b)) s lines log es → (answers : List Answer) × AreAnswered s lines answers es × (bytes_of log ≡ answers_text b answers es) × (list_any is_mark log ≡ list_any says_refusal answers)
 marked_by false lines s log es h = replies_marked lines s log es h
 marked_by true lines s log es h = entries_marked lines s log es h
 
 -- of no line nothing is told
-none_told : (b : Bool) → lines_text b [] [] ≡ []
+none_told : (b : Bool) → answers_text b [] [] ≡ []
 none_told false = refl
 none_told true = refl
 
@@ -121,7 +122,7 @@ IsLegalSince g begun entries = (es : List Entry) → entries ≡ begun ++ es →
 
 -- they were told of
 gone_told : (b : Bool) (end : Option ScriptFault) (s : Script) (bytes : List ℕ) (t : Scene) (l : Line) (begun : List Entry) (before left : List ℕ) (entries : List Entry) (after : Option (List ℕ)) → IsLegalSince t.graph begun entries → StandsTold (told_by b) s bytes t l begun before end left entries after →
-    (answers : List Answer) × (es : List Entry) × LinesGone s bytes t (Some l) end left answers es × (entries ≡ begun ++ es) × (after ≡ Some (before ++ lines_text b answers es))
+    (answers : List Answer) × (es : List Entry) × LinesGone s bytes t (Some l) end left answers es × (entries ≡ begun ++ es) × (after ≡ Some (before ++ answers_text b answers es))
 gone_told b end s bytes t l begun before left entries after legal (text, es, stands, had, (lines, reads, tells)) =
     let k = answered_by b (l ∷ lines) t text es tells in (
       k.0,
@@ -133,7 +134,7 @@ gone_told b end s bytes t l begun before left entries after legal (text, es, sta
 
 -- and a watch has seen them
 pub gone_seen : (b : Bool) (s : Script) (bytes : List ℕ) (t : Scene) (first : Option Line) (begun : List Entry) (before left : List ℕ) (entries : List Entry) (after : Option (List ℕ)) (saw saw' : Option Bool) → IsLegalSince t.graph begun entries → SeesTold (told_by b) s bytes t first begun before left entries after saw saw' →
-    (answers : List Answer) × (es : List Entry) × LinesGone s bytes t first None left answers es × (entries ≡ begun ++ es) × (after ≡ Some (before ++ lines_text b answers es)) × SeesAll saw answers saw'
+    (answers : List Answer) × (es : List Entry) × LinesGone s bytes t first None left answers es × (entries ≡ begun ++ es) × (after ≡ Some (before ++ answers_text b answers es)) × SeesAll saw answers saw'
 gone_seen b s bytes t None begun before left entries after saw saw' legal h =
     let had = h.1.2 ∙ sym (append-nil begun) in (
       [],
@@ -149,7 +150,7 @@ gone_seen b s bytes t (Some l) begun before left entries after saw saw' legal (l
       es,
       record { lines = l ∷ lines; reads = (lines, refl, reads); answered = k.1; legal = legal es had },
       had,
-      bytes_stand after before log text (lines_text b k.0 es) stands is k.2,
+      bytes_stand after before log text (answers_text b k.0 es) stands is k.2,
       log_sees saw saw' log text k.0 is k.3 seen,
     )
 
@@ -158,10 +159,10 @@ pub gone_fault : (T : Type 0) (b : Bool) (count : ℕ) (f : ScriptFault) (s : Sc
 gone_fault T b count f s bytes t None begun before left entries after saw saw' legal h = absurd (false≢true h.0)
 gone_fault T b count fault.WriteFailed s bytes t (Some l) begun before left entries after saw saw' legal (inl h) =
     let k = gone_told b (Some fault.WriteFailed) s bytes t l begun before left entries after legal h in
-    (k.0, k.1, lines_text b k.0 k.1, last_text b count k.1, k.2, refl, k.4)
+    (k.0, k.1, answers_text b k.0 k.1, closing_text b count k.1, k.2, refl, k.4)
 gone_fault T b count fault.WriteFailed s bytes t (Some l) begun before left entries after saw saw' legal (inr (front, es, stands, had, (lines, reads, behind, cut))) =
     let k = cut_by b (l ∷ lines) t front es cut in
-    let last = last_text b count es in (
+    let last = closing_text b count es in (
       k.0,
       es,
       front,

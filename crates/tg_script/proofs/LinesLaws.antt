@@ -15,7 +15,7 @@ use Rattle.tg_text.specs.declared.fault.ScriptFault.TheVariants as fault
 use Rattle.tg_text.specs.Sinks.{KeepsBytes, Wrote}
 use Rattle.std.specs.Prelude.{IfErr, Result}
 use Rattle.std.proofs.lemmas.Result.{err_from_is_err_and}
-use Rattle.tg_script.specs.Lines.{CountsFailures, IsBehind, IsNewScript, NextLine, OnlyReads, PassesLine, ReadsFrom, line_bytes, read_failures, write_failures}
+use Rattle.tg_script.specs.Lines.{CountsFailures, IsRestAfter, IsNewScript, NextLine, OnlyReads, PassesLine, ReadsFrom, line_bytes, read_failures, write_failures}
 use Rattle.tg_script.specs.Inner.Beginning.{ReadsFirst, ReadsFront}
 
 one_more : (text : List ℕ) (byte : ℕ) → IsOneLine text → byte ≢ 10 → IsOneLine (text ++ byte ∷ [])
@@ -67,13 +67,13 @@ front_next workers t u bytes rest after front (Some l) b h = front_more workers 
 -- ---- what is left behind lines
 
 -- where reading stopped right after lines, what is left is all after them
-pub reads_behind : (lines : List Line) (workers room count : ℕ) (opening : Bool) (bytes left : List ℕ) → Reads workers room count opening bytes lines (Some fault.OutOfMemory) left → IsBehind lines bytes left
+pub reads_behind : (lines : List Line) (workers room count : ℕ) (opening : Bool) (bytes left : List ℕ) → Reads workers room count opening bytes lines (Some fault.OutOfMemory) left → IsRestAfter lines bytes left
 reads_behind [] workers room count opening bytes left h = sym h
 reads_behind (l ∷ lines) workers room count opening bytes left h =
     h.1 ∙ ap (λ x. line_text l ++ 10 ∷ x) (reads_behind lines workers (room - (length (line_text l) + 1)) (count + 1) (opening_after opening l) h.0 left h.5)
     ∙ sym (append_assoc (line_text l) (10 ∷ []) (flat_map line_bytes lines ++ left)) ∙ sym (append_assoc (line_bytes l) (flat_map line_bytes lines) left)
 
-pub behind-append : (front more : List Line) (bytes rest left : List ℕ) → IsBehind front bytes rest → IsBehind more rest left → IsBehind (front ++ more) bytes left
+pub behind-append : (front more : List Line) (bytes rest left : List ℕ) → IsRestAfter front bytes rest → IsRestAfter more rest left → IsRestAfter (front ++ more) bytes left
 behind-append front more bytes rest left f m =
     f ∙ ap (λ x. flat_map line_bytes front ++ x) m ∙ sym (append_assoc (flat_map line_bytes front) (flat_map line_bytes more) left)
     ∙ ap (λ x. x ++ left) (sym (flat_map-append line_bytes front more))

@@ -23,7 +23,8 @@ use Rattle.tg_script.specs.Lines.{PassesLine, ReadsFrom}
 use Rattle.tg_script.specs.Opening.{edge_lines}
 use Rattle.tg_script.specs.Running.{Finishes}
 use Rattle.tg_script.specs.Script.{Scene, Start, scene_of}
-use Rattle.tg_script.specs.Watching.{AreAnswered, IsAnswered, IsSeen, Sees, SeesAll, says_refusal, text_as}
+use Rattle.tg_script.specs.Watching.{AreAnswered, RanToEnd, IsWatched, SeesOne, SeesAll, text_as}
+use Rattle.tg_text.specs.Refusing.{says_refusal}
 use Rattle.tg_script.specs.Inner.Beginning.{IsBehindEdges, ReadsFirst, plan_with, scene_with}
 use Rattle.tg_script.specs.Inner.Marks.{AnswersSeen, SeesMarks, SeesTold, byte_of, bytes_of, is_mark, marked, marks}
 use Rattle.tg_script.specs.Inner.Run.{Handles, MakesEntry, Shows}
@@ -74,10 +75,10 @@ pub sees_none : (saw : Option Bool) → SeesMarks saw [] saw
 sees_none None = tt
 sees_none (Some b) = ap Some (or_false b)
 
-sees_from : (b : Bool) (mid after : Option Bool) (a : Answer) → mid ≡ Some b → Sees mid a after → after ≡ Some (b || says_refusal a)
-sees_from b mid after a is sees = subst (λ (x : Option Bool). Sees x a after) is sees
+sees_from : (b : Bool) (mid after : Option Bool) (a : Answer) → mid ≡ Some b → SeesOne mid a after → after ≡ Some (b || says_refusal a)
+sees_from b mid after a is sees = subst (λ (x : Option Bool). SeesOne x a after) is sees
 
-sees_more : (saw mid after : Option Bool) (log : List ℕ) (a : Answer) (bytes : List ℕ) → SeesMarks saw log mid → Sees mid a after → SeesMarks saw (log ++ marked (says_refusal a) bytes) after
+sees_more : (saw mid after : Option Bool) (log : List ℕ) (a : Answer) (bytes : List ℕ) → SeesMarks saw log mid → SeesOne mid a after → SeesMarks saw (log ++ marked (says_refusal a) bytes) after
 sees_more None mid after log a bytes had sees = tt
 sees_more (Some b) mid after log a bytes had sees =
     sees_from (b || list_any is_mark log) mid after a had sees ∙ ap Some (or_assoc b (list_any is_mark log) (says_refusal a) ∙ ap (λ (x : Bool). b || x) (sym (any_more log (says_refusal a) bytes)))
@@ -108,7 +109,7 @@ marks_first {told = told} {before = before} saw first l same shows leaves took =
   seen = sees_none saw;
 }
 
-pub marks_next : {P : Type 0} {told : LineText} {start : Script} {bytes : List ℕ} {t : Scene} {first : Line} {begun : List Entry} {before : List ℕ} {s : Script} {r : Run P} {l : Line} {left taken : Option (List ℕ)} {saw mid : Option Bool} (a : Answer) (r' : Run P) (after : Option (List ℕ)) (next : Line) (s' : Script) (left' : Option (List ℕ)) (saw' : Option Bool) → UnderMarks told start bytes t first begun before s r l left taken saw mid → Handles r l a r' → MakesEntry r l a r' → Wrote taken (told l a (values_left r.supply)) after → Sees mid a saw' → ((rest : List ℕ) → left ≡ Some rest → (rest' : List ℕ) × (left' ≡ Some rest') × PassesLine s rest next s' rest') → UnderMarks told start bytes t first begun before s' r' next left' after saw saw'
+pub marks_next : {P : Type 0} {told : LineText} {start : Script} {bytes : List ℕ} {t : Scene} {first : Line} {begun : List Entry} {before : List ℕ} {s : Script} {r : Run P} {l : Line} {left taken : Option (List ℕ)} {saw mid : Option Bool} (a : Answer) (r' : Run P) (after : Option (List ℕ)) (next : Line) (s' : Script) (left' : Option (List ℕ)) (saw' : Option Bool) → UnderMarks told start bytes t first begun before s r l left taken saw mid → Handles r l a r' → MakesEntry r l a r' → Wrote taken (told l a (values_left r.supply)) after → SeesOne mid a saw' → ((rest : List ℕ) → left ≡ Some rest → (rest' : List ℕ) × (left' ≡ Some rest') × PassesLine s rest next s' rest') → UnderMarks told start bytes t first begun before s' r' next left' after saw saw'
 marks_next {told = told} {before = before} {r = r} {l = l} {taken = taken} {saw = saw} {mid = mid} a r' after next s' left' saw' h handles makes wrote sees came =
     let text = told l a (values_left r.supply) in
     let log = h.log ++ marked (says_refusal a) text in
@@ -119,7 +120,7 @@ marks_next {told = told} {before = before} {r = r} {l = l} {taken = taken} {saw 
       seen = sees_more saw mid saw' h.log a text h.seen sees;
     }
 
-pub marks_end : {P : Type 0} {told : LineText} {start : Script} {bytes : List ℕ} {t : Scene} {first : Line} {begun : List Entry} {before : List ℕ} {s : Script} {r : Run P} {l : Line} {left taken : Option (List ℕ)} {saw mid : Option Bool} (a : Answer) (r' : Run P) (after : Option (List ℕ)) (behind : List ℕ) (saw' : Option Bool) (h : UnderMarks told start bytes t first begun before s r l left taken saw mid) → Handles r l a r' → MakesEntry r l a r' → Wrote taken (told l a (values_left r.supply)) after → Sees mid a saw' → ReadsFrom s h.under.rest [] None behind → SeesTold told start bytes t (Some first) begun before behind r'.store.entries after saw saw'
+pub marks_end : {P : Type 0} {told : LineText} {start : Script} {bytes : List ℕ} {t : Scene} {first : Line} {begun : List Entry} {before : List ℕ} {s : Script} {r : Run P} {l : Line} {left taken : Option (List ℕ)} {saw mid : Option Bool} (a : Answer) (r' : Run P) (after : Option (List ℕ)) (behind : List ℕ) (saw' : Option Bool) (h : UnderMarks told start bytes t first begun before s r l left taken saw mid) → Handles r l a r' → MakesEntry r l a r' → Wrote taken (told l a (values_left r.supply)) after → SeesOne mid a saw' → ReadsFrom s h.under.rest [] None behind → SeesTold told start bytes t (Some first) begun before behind r'.store.entries after saw saw'
 marks_end {told = told} {before = before} {r = r} {l = l} {taken = taken} {saw = saw} {mid = mid} a r' after behind saw' h handles makes wrote sees ends =
     let text = told l a (values_left r.supply) in
     let log = h.log ++ marked (says_refusal a) text in (
@@ -193,7 +194,7 @@ entries_seen saw saw' s bytes t (Some l) p begun before left entries mid after n
 
 -- ---- the whole of a script
 
-is_seen : (entries : Bool) (start : Start) (t : Script) (bytes rest : List ℕ) (edges : List Edge) (first : Option Line) (before left : List ℕ) (after : Option (List ℕ)) (saw saw' : Option Bool) → IsBehindEdges t first → ReadsFirst start.workers bytes (edge_lines edges) first t rest → AnswersSeen entries t rest (scene_with start edges) first (plan_with start edges) before left after saw saw' → IsSeen entries start bytes before left after saw saw'
+is_seen : (entries : Bool) (start : Start) (t : Script) (bytes rest : List ℕ) (edges : List Edge) (first : Option Line) (before left : List ℕ) (after : Option (List ℕ)) (saw saw' : Option Bool) → IsBehindEdges t first → ReadsFirst start.workers bytes (edge_lines edges) first t rest → AnswersSeen entries t rest (scene_with start edges) first (plan_with start edges) before left after saw saw' → IsWatched entries start bytes before left after saw saw'
 is_seen entries start t bytes rest edges first before left after saw saw' command reads (lines, answers, es, more, are, stands, seen) =
     let parts = all_parts start t bytes rest edges first lines None left command reads more in (
       answers,
@@ -215,7 +216,7 @@ on_ok (Err e) f a = tt
 -- what a watch has seen of a run, by the bytes that are left and those that were taken, before it and after it
 abbrev pub WatchesRun : Bool → Start → Option (List ℕ) → Option (List ℕ) → Option (List ℕ) → Option (List ℕ) → Option Bool → Option Bool → Type 0
 WatchesRun entries start left left' taken taken' saw saw' =
-    (bytes before : List ℕ) → left ≡ Some bytes → taken ≡ Some before → (rest : List ℕ) × (left' ≡ Some rest) × IsSeen entries start bytes before rest taken' saw saw'
+    (bytes before : List ℕ) → left ≡ Some bytes → taken ≡ Some before → (rest : List ℕ) × (left' ≡ Some rest) × IsWatched entries start bytes before rest taken' saw saw'
 
 -- the run has begun, and its lines were run
 pub runs_seen : (entries : Bool) (start : Start) (edges : List Edge) (t : Script) (first : Option Line) (left left' left'' taken taken' taken'' : Option (List ℕ)) (saw saw' : Option Bool) → IsBehindEdges t first → ((bytes : List ℕ) → left ≡ Some bytes → (rest : List ℕ) × (left' ≡ Some rest) × ReadsFirst start.workers bytes (edge_lines edges) first t rest) → KeepsBytes taken taken' → ((rest before : List ℕ) → left' ≡ Some rest → taken' ≡ Some before → (last : List ℕ) × (left'' ≡ Some last) × AnswersSeen entries t rest (scene_with start edges) first (plan_with start edges) before last taken'' saw saw') → WatchesRun entries start left left'' taken taken'' saw saw'
@@ -224,7 +225,7 @@ runs_seen entries start edges t first left left' left'' taken taken' taken'' saw
     let had = lines n.0 before n.1 (keeps_known taken taken' before takes keeps) in
     (had.0, had.1, is_seen entries start t bytes n.0 edges first before had.0 taken'' saw saw' command n.2 had.2)
 
-answered_keeps : (entries : Bool) (start : Start) (bytes before left : List ℕ) (mid after : Option (List ℕ)) (answers : List Answer) → KeepsBytes mid after → IsAnswered entries start bytes before left mid answers → IsAnswered entries start bytes before left after answers
+answered_keeps : (entries : Bool) (start : Start) (bytes before left : List ℕ) (mid after : Option (List ℕ)) (answers : List Answer) → KeepsBytes mid after → RanToEnd entries start bytes before left mid answers → RanToEnd entries start bytes before left after answers
 answered_keeps entries start bytes before left mid after answers keeps h = record {
   lines = h.lines;
   made = h.made;

@@ -13,11 +13,11 @@ use Rattle.tg_text.specs.Sinks.{KeepsBytes}
 use Rattle.tg_text.specs.Reading.{ReadsScript}
 use Rattle.tg_text.specs.declared.fetch.TheConstants.{MOST_BYTES}
 use Rattle.tg_script.specs.Script.{IsAdmissible, IsCut, Start, HasRoomForWorkers, CanOpen, edges_of, commands_of, scene_of}
-use Rattle.tg_script.specs.Lines.{ReadsFrom, IsBehind, IsOfKeeping}
+use Rattle.tg_script.specs.Lines.{ReadsFrom, IsRestAfter, IsOfKeeping}
 use Rattle.tg_script.specs.Opening.{IsCommand, edge_lines, OpensStore}
 use Rattle.tg_script.specs.Inner.Beginning.{IsBehindEdges, ReadsFirst, ReadsFront, StopsAtEdges, Unbegun, scene_with}
 use Rattle.tg_journal.specs.declared.entry.Entry.{Entry}
-use Rattle.tg_script.specs.Running.{IsWritten, IsUnopened, IsUnkept, IsCutOff, Ran, Finishes}
+use Rattle.tg_script.specs.Running.{AddsOutput, IsUnopened, IsUnkept, IsCutOff, Ran, Finishes}
 use Rattle.tg_script.specs.Inner.Telling.{StandsTold, StandsCut, TellsAll, TellsFirst, reply_of_line}
 use Rattle.tg_script.proofs.TellLaws.{replies_admissible, replies_cut}
 use Rattle.tg_script.proofs.LinesLaws.{MayStop, front_all, front_then, reads_stop, reads_end, reads_behind, behind-append, may_stop_writing, keeps_known}
@@ -28,7 +28,7 @@ pub commands_of-edges : (edges : List Edge) → commands_of (edge_lines edges) �
 commands_of-edges [] = refl
 commands_of-edges (e ∷ edges) = commands_of-edges edges
 
-edges_written : (start : Start) (bytes before : List ℕ) (edges : List Edge) (end : Option ScriptFault) (left : List ℕ) (after : Option (List ℕ)) → ReadsScript start.workers bytes (edge_lines edges) end left → after ≡ Some before → IsWritten start bytes before end left after
+edges_written : (start : Start) (bytes before : List ℕ) (edges : List Edge) (end : Option ScriptFault) (left : List ℕ) (after : Option (List ℕ)) → ReadsScript start.workers bytes (edge_lines edges) end left → after ≡ Some before → AddsOutput start bytes before end left after
 edges_written start bytes before edges end left after h same =
     let none = commands_of-edges edges in
     let P : List Line → Type 0 = λ x. IsAdmissible (scene_of start (edge_lines edges)) x 0 [] in
@@ -109,7 +109,7 @@ parts_of start t bytes rest edges l more end left command front h = record {
   edges_are = edges_of-front edges l more command;
 }
 
-told_written : (start : Start) (t : Script) (bytes rest : List ℕ) (edges : List Edge) (l : Line) (before : List ℕ) (end : Option ScriptFault) (left : List ℕ) (begun entries : List Entry) (after : Option (List ℕ)) → CanOpen start → IsCommand l → ReadsFront start.workers bytes (edge_lines edges ++ l ∷ []) t rest → StandsTold reply_of_line t rest (scene_with start edges) l begun before end left entries after → IsWritten start bytes before end left after
+told_written : (start : Start) (t : Script) (bytes rest : List ℕ) (edges : List Edge) (l : Line) (before : List ℕ) (end : Option ScriptFault) (left : List ℕ) (begun entries : List Entry) (after : Option (List ℕ)) → CanOpen start → IsCommand l → ReadsFront start.workers bytes (edge_lines edges ++ l ∷ []) t rest → StandsTold reply_of_line t rest (scene_with start edges) l begun before end left entries after → AddsOutput start bytes before end left after
 told_written start t bytes rest edges l before end left begun entries after can command front (text, es, stands, had, (lines, reads, tells)) =
     let parts = parts_of start t bytes rest edges l lines end left command front reads in
     let told = replies_admissible (l ∷ lines) (scene_with start edges) text es tells in
@@ -124,7 +124,7 @@ cut_off start t bytes rest edges l before left begun entries after can command r
     let parts = parts_of start t bytes rest edges l more (Some fault.WriteFailed) left command reads more_reads in
     let first = edge_lines edges ++ l ∷ [] in
     let begins = reads_behind first start.workers MOST_BYTES 0 true bytes rest (front_all start.workers t bytes rest first (Some fault.OutOfMemory) rest reads refl) in
-    let B : List Line → Type 0 = λ x. IsBehind x bytes left in
+    let B : List Line → Type 0 = λ x. IsRestAfter x bytes left in
     let Q : List Edge → Type 0 = λ x. IsCut (scene_with start x) (commands_of parts.lines) front in
     let R : List Line → Type 0 = λ x. IsCut (scene_with start edges) x front in (
       parts.lines,
@@ -157,7 +157,7 @@ ran_first r start t bytes rest edges (Some l) before left begun entries after ca
 
 -- ---- the sink is finished
 
-written_keeps : (start : Start) (bytes before : List ℕ) (end : Option ScriptFault) (left : List ℕ) (mid after : Option (List ℕ)) → IsWritten start bytes before end left mid → KeepsBytes mid after → IsWritten start bytes before end left after
+written_keeps : (start : Start) (bytes before : List ℕ) (end : Option ScriptFault) (left : List ℕ) (mid after : Option (List ℕ)) → AddsOutput start bytes before end left mid → KeepsBytes mid after → AddsOutput start bytes before end left after
 written_keeps start bytes before end left mid after h keeps = (h.0, keeps_known mid after (before ++ h.0) h.1 keeps, h.2)
 
 pub ran_keeps : {T : Type 0} (r : Result T ScriptFault) (start : Start) (bytes before left : List ℕ) (mid after : Option (List ℕ)) → Ran start bytes before r left mid → KeepsBytes mid after → Ran start bytes before r left after

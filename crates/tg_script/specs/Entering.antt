@@ -47,7 +47,7 @@ abbrev pub plan_of : Start → List Line → Plan
 plan_of start lines = record { workers = start.workers; edges = edges_of lines; values = start.values; limit = start.limit }
 
 -- these commands of a script were run, and these are their entries, a legal history of its opening
-pub record IsEntered (start : Start) (lines commands : List Line) (entries : List Entry) : Type 0 where
+pub record EntersScript (start : Start) (lines commands : List Line) (entries : List Entry) : Type 0 where
   pub opened : MayAnswer start lines
   pub entered : AreEntered (scene_of start lines) commands entries
   pub legal : IsLegal (scene_of start lines).graph entries
@@ -63,7 +63,7 @@ pub record StandsEntered (start : Start) (bytes before : List ℕ) (end : Option
   pub lines : List Line
   pub entries : List Entry
   pub reads : ReadsScript start.workers bytes lines end left
-  pub run : IsEntered start lines (commands_of lines) entries
+  pub run : EntersScript start lines (commands_of lines) entries
   pub stands : after ≡ Some (before ++ text (plan_of start lines) (commands_of lines) entries)
 
 -- Writing came to an error: a front of the text of a history stands, whose entries are those of the commands that were read, or of
@@ -78,7 +78,7 @@ pub record IsCutEntered (start : Start) (bytes before left : List ℕ) (after : 
   pub reads : ReadsScript start.workers bytes lines (Some fault.WriteFailed) left
   pub are : commands_of lines ≡ commands ++ later
   pub few : length later ≤ 1
-  pub run : IsEntered start lines commands entries
+  pub run : EntersScript start lines commands entries
   pub cut : history_text (plan_of start lines) entries ≡ front ++ rest
   pub stands : after ≡ Some (before ++ front)
 

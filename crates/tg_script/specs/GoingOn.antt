@@ -28,18 +28,18 @@ pub record GoesOn (s : Scene) (bytes : List ℕ) (end : Option ScriptFault) (lef
   pub legal : IsLegal s.graph es
 
 -- the text of these answers, or that of the entries that they made
-abbrev pub lines_text : Bool → List Answer → List Entry → List ℕ
-lines_text false answers es = flat_map answer_text answers
-lines_text true answers es = flat_map entry_text es
+abbrev pub answers_text : Bool → List Answer → List Entry → List ℕ
+answers_text false answers es = flat_map answer_text answers
+answers_text true answers es = flat_map entry_text es
 
 -- the text after it where the script was run to its end: nothing, or the number of all entries, of which so many were there before
-abbrev pub last_text : Bool → ℕ → List Entry → List ℕ
-last_text false count es = []
-last_text true count es = end_text (count + length es)
+abbrev pub closing_text : Bool → ℕ → List Entry → List ℕ
+closing_text false count es = []
+closing_text true count es = end_text (count + length es)
 
 -- the whole text
 abbrev pub whole_text : Bool → ℕ → List Answer → List Entry → List ℕ
-whole_text entries count answers es = lines_text entries answers es ++ last_text entries count es
+whole_text entries count answers es = answers_text entries answers es ++ closing_text entries count es
 
 -- What is in the sink after a run over these bytes, where `before` stood in it, what is left of them, and what a watch has seen: the whole
 -- text, or a front of it where the sink failed, or the text for the lines before another fault.
@@ -50,7 +50,7 @@ GoneOn entries s count bytes before saw (Err fault.WriteFailed) left after saw' 
     (answers : List Answer) × (es : List Entry) × (front : List ℕ) × (rest : List ℕ) × GoesOn s bytes (Some fault.WriteFailed) left answers es
     × (whole_text entries count answers es ≡ front ++ rest) × (after ≡ Some (before ++ front))
 GoneOn entries s count bytes before saw (Err f) left after saw' =
-    (answers : List Answer) × (es : List Entry) × GoesOn s bytes (Some f) left answers es × (after ≡ Some (before ++ lines_text entries answers es))
+    (answers : List Answer) × (es : List Entry) × GoesOn s bytes (Some f) left answers es × (after ≡ Some (before ++ answers_text entries answers es))
 
 -- the same by what source, sink and watch tell
 abbrev pub GoesOnFrom : {S K W T : Type 0} → (S → Option (List ℕ)) → (K → Option (List ℕ)) → (W → Option Bool) → S → S → K → K → W → W → Bool → Scene → ℕ → Result T ScriptFault → Type 0

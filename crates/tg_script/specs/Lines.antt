@@ -60,8 +60,8 @@ abbrev pub line_bytes : Line → List ℕ
 line_bytes l = line_text l ++ 10 ∷ []
 
 -- what is left is all that is after these lines
-abbrev pub IsBehind : List Line → List ℕ → List ℕ → Type 0
-IsBehind lines bytes left = bytes ≡ flat_map line_bytes lines ++ left
+abbrev pub IsRestAfter : List Line → List ℕ → List ℕ → Type 0
+IsRestAfter lines bytes left = bytes ≡ flat_map line_bytes lines ++ left
 
 -- how many failures of the source an outcome is
 abbrev pub read_failures : {T : Type 0} → Result T ScriptFault → ℕ

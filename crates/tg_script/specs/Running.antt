@@ -4,13 +4,13 @@ use Rattle.tg_text.specs.declared.fault.ScriptFault.{ScriptFault}
 use Rattle.tg_text.specs.declared.fault.ScriptFault.TheVariants as fault
 use Rattle.tg_text.specs.Sinks.{KeepsBytes}
 use Rattle.tg_text.specs.declared.line.Line.{Line}
-use Rattle.tg_script.specs.Lines.{IsBehind, read_failures}
+use Rattle.tg_script.specs.Lines.{IsRestAfter, read_failures}
 use Rattle.tg_text.specs.Reading.{ReadsScript}
 use Rattle.tg_script.specs.Script.{IsCut, Start, HasRoomForWorkers, CanOpen, IsScriptOutput, commands_of, scene_of}
 
 -- the text for the script, read up to this fault or to its end, is after what was written before
-abbrev pub IsWritten : Start → List ℕ → List ℕ → Option ScriptFault → List ℕ → Option (List ℕ) → Type 0
-IsWritten start bytes before end left after = (text : List ℕ) × (after ≡ Some (before ++ text)) × IsScriptOutput start bytes end left text
+abbrev pub AddsOutput : Start → List ℕ → List ℕ → Option ScriptFault → List ℕ → Option (List ℕ) → Type 0
+AddsOutput start bytes before end left after = (text : List ℕ) × (after ≡ Some (before ++ text)) × IsScriptOutput start bytes end left text
 
 -- the script is read to its end, or to the first line that is no edge line, and no further, which this fault then ended
 abbrev pub IsUnopened : Start → List ℕ → ScriptFault → List ℕ → Type 0
@@ -25,7 +25,7 @@ IsUnkept start bytes left =
 -- the reply to the last of the lines that were read was cut off; no byte after that line was read
 abbrev pub IsCutOff : Start → List ℕ → List ℕ → List ℕ → Option (List ℕ) → Type 0
 IsCutOff start bytes before left after =
-    (lines : List Line) × (front : List ℕ) × ReadsScript start.workers bytes lines (Some fault.WriteFailed) left × IsBehind lines bytes left
+    (lines : List Line) × (front : List ℕ) × ReadsScript start.workers bytes lines (Some fault.WriteFailed) left × IsRestAfter lines bytes left
     × CanOpen start × IsCut (scene_of start lines) (commands_of lines) front × (after ≡ Some (before ++ front))
 
 -- What is in the sink after a run over these bytes, where `before` stood in it, and what is left of them: the text for all
@@ -33,14 +33,14 @@ IsCutOff start bytes before left after =
 -- last reply; where the store wasn't opened, for lack of memory, of a block for each worker, or for the limit, nothing more.
 -- No byte after the end of the run is read.
 abbrev pub Ran : {T : Type 0} → Start → List ℕ → List ℕ → Result T ScriptFault → List ℕ → Option (List ℕ) → Type 0
-Ran start bytes before (Ok done) left after = CanOpen start × IsWritten start bytes before None left after
-Ran start bytes before (Err fault.WriteFailed) left after = IsWritten start bytes before (Some fault.WriteFailed) left after ⊎ IsCutOff start bytes before left after
+Ran start bytes before (Ok done) left after = CanOpen start × AddsOutput start bytes before None left after
+Ran start bytes before (Err fault.WriteFailed) left after = AddsOutput start bytes before (Some fault.WriteFailed) left after ⊎ IsCutOff start bytes before left after
 Ran start bytes before (Err fault.OutOfMemory) left after =
     (IsUnkept start bytes left ⊎ (HasRoomForWorkers start × IsUnopened start bytes fault.OutOfMemory left)) × (after ≡ Some before)
 Ran start bytes before (Err fault.HeapFull) left after =
     HasRoomForWorkers start × (start.blocks < start.workers) × IsUnopened start bytes fault.HeapFull left × (after ≡ Some before)
 Ran start bytes before (Err fault.BadLimits) left after = (¬ HasRoomForWorkers start) × IsUnopened start bytes fault.BadLimits left × (after ≡ Some before)
-Ran start bytes before (Err f) left after = IsWritten start bytes before (Some f) left after
+Ran start bytes before (Err f) left after = AddsOutput start bytes before (Some f) left after
 
 -- What holds of the settings where a run ends with this fault, whatever its source tells of its bytes: with `BadLimits` and
 -- `HeapFull` it ends only where the settings are at fault.

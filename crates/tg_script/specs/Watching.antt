@@ -1,39 +1,21 @@
--- Which answers deny or refuse their lines, and what a watch has seen when a script was run to its end.
+-- What a watch has seen when a script was run to its end.
 use Rattle.std.specs.Prelude.{◌≡◌, ℕ, Bool, true, false, ◌||◌, List, [], ◌∷◌, ◌++◌, Option, Some, None}
 use Rattle.std.specs.List.{flat_map, list_any}
-use Rattle.tg_model.specs.declared.reply.Reply.{Reply}
-use Rattle.tg_model.specs.declared.reply.Reply.TheVariants.{Done, Name, Values, Edges, Denied, VerticesFull, WorkersFull}
 use Rattle.tg_model.specs.Opened.{Plan}
 use Rattle.tg_journal.specs.declared.entry.Entry.{Entry}
 use Rattle.tg_text.specs.declared.line.Line.{Line}
 use Rattle.tg_text.specs.declared.answer.Answer.{Answer}
-use Rattle.tg_text.specs.declared.answer.Answer.TheVariants as told
 use Rattle.tg_text.specs.Reading.{ReadsScript}
+use Rattle.tg_text.specs.Refusing.{says_refusal}
 use Rattle.tg_text.specs.Texts.{answer_text}
 use Rattle.tg_entries.specs.Texts.{history_text}
 use Rattle.tg_script.specs.Entering.{entered, plan_of}
 use Rattle.tg_script.specs.Script.{Scene, Serves, Start, commands_of, scene_of}
 
--- the command was denied, or no vertex could be made
-abbrev pub says_denial : Reply → Bool
-says_denial Done = false
-says_denial (Name name) = false
-says_denial (Values values) = false
-says_denial (Edges edges) = false
-says_denial (Denied denial) = true
-says_denial VerticesFull = true
-says_denial WorkersFull = true
-
--- the line was denied or refused
-abbrev pub says_refusal : Answer → Bool
-says_refusal (told.Reply reply) = says_denial reply
-says_refusal (told.Collected kept) = false
-says_refusal (told.Refused why) = true
-
 -- what a watch has seen before an answer, and with it: whether a line was denied or refused, where that is known
-abbrev pub Sees : Option Bool → Answer → Option Bool → Type 0
-Sees (Some saw) a after = after ≡ Some (saw || says_refusal a)
-Sees None a after = Unit {0}
+abbrev pub SeesOne : Option Bool → Answer → Option Bool → Type 0
+SeesOne (Some saw) a after = after ≡ Some (saw || says_refusal a)
+SeesOne None a after = Unit {0}
 
 -- the same before many answers, and with them
 abbrev pub SeesAll : Option Bool → List Answer → Option Bool → Type 0
@@ -54,7 +36,7 @@ text_as true p answers es = history_text p es
 
 -- The script of these bytes was run to its end. Its lines have these answers, whose text stands behind what was written before, or that of
 -- their history.
-pub record IsAnswered (entries : Bool) (start : Start) (bytes before left : List ℕ) (after : Option (List ℕ)) (answers : List Answer) : Type 0 where
+pub record RanToEnd (entries : Bool) (start : Start) (bytes before left : List ℕ) (after : Option (List ℕ)) (answers : List Answer) : Type 0 where
   pub lines : List Line
   pub made : List Entry
   pub reads : ReadsScript start.workers bytes lines None left
@@ -62,11 +44,11 @@ pub record IsAnswered (entries : Bool) (start : Start) (bytes before left : List
   pub stands : after ≡ Some (before ++ text_as entries (plan_of start lines) answers made)
 
 -- and the watch has seen just these answers
-abbrev pub IsSeen : Bool → Start → List ℕ → List ℕ → List ℕ → Option (List ℕ) → Option Bool → Option Bool → Type 0
-IsSeen entries start bytes before left after saw saw' = (answers : List Answer) × IsAnswered entries start bytes before left after answers × SeesAll saw answers saw'
+abbrev pub IsWatched : Bool → Start → List ℕ → List ℕ → List ℕ → Option (List ℕ) → Option Bool → Option Bool → Type 0
+IsWatched entries start bytes before left after saw saw' = (answers : List Answer) × RanToEnd entries start bytes before left after answers × SeesAll saw answers saw'
 
 -- the same by what a source, a sink and a watch tell
 abbrev pub SeesFrom : {S K W : Type 0} → (S → Option (List ℕ)) → (K → Option (List ℕ)) → (W → Option Bool) → S → S → K → K → W → W → Bool → Start → Type 0
 SeesFrom left taken refused source source' sink sink' watch watch' entries start =
     (bytes before : List ℕ) → left source ≡ Some bytes → taken sink ≡ Some before →
-    (rest : List ℕ) × (left source' ≡ Some rest) × IsSeen entries start bytes before rest (taken sink') (refused watch) (refused watch')
+    (rest : List ℕ) × (left source' ≡ Some rest) × IsWatched entries start bytes before rest (taken sink') (refused watch) (refused watch')

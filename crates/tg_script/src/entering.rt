@@ -10,7 +10,7 @@ ghost use Rattle.tg_script.specs.Watching.{SeesFrom};
 
 use crate::collector::Collector;
 use crate::run_script::{Begun, RunMeans, RunSetup, begin, finish, run_commands};
-use crate::telling::Entries;
+use crate::telling::ByEntry;
 use crate::watch::{Unwatched, Watch};
 use std::alloc::Global;
 use tg_entries::{write_end, write_opening};
@@ -87,7 +87,7 @@ fn enter_all<P: Payload, C: Collector, S: Source, K: Sink, W: Watch>(
     let Ok(()) = write_opening(sink, begun.run.store.opening()) else {
         return Err(ScriptFault::WriteFailed);
     };
-    let entered = run_commands::<P, Entries, C, S, K, W>(begun, collector, source, sink, watch);
+    let entered = run_commands::<P, ByEntry, C, S, K, W>(begun, collector, source, sink, watch);
     // It tells that the entries are a legal history, whatever came of the lines.
     let count = begun.run.store.journal().len();
     entered?;

@@ -13,7 +13,7 @@ use crate::opening::{Front, read_edges};
 use crate::run::Run;
 use crate::run_script::{Begun, RunMeans, finish, run_commands};
 use crate::supply::Supply;
-use crate::telling::{Entries, Replies};
+use crate::telling::{ByEntry, ByReply};
 use crate::watch::Watch;
 use std::alloc::Global;
 use tg_entries::write_end;
@@ -136,7 +136,7 @@ fn reply_on<P: Payload, C: Collector, S: Source, K: Sink, W: Watch>(
     ensures gone { GoesBy S.left K.taken W.refused false source.old source.new sink.old sink.new watch.old watch.new on.old result }
     ensures streams { UsesStreams S.asked S.failures K.failures source.old source.new sink.old sink.new on.old.begun.script on.old.begun.first result }
 {
-    let outcome = run_commands::<P, Replies, C, S, K, W>(
+    let outcome = run_commands::<P, ByReply, C, S, K, W>(
         &mut on.begun,
         collector,
         source,
@@ -162,7 +162,7 @@ fn enter_on<P: Payload, C: Collector, S: Source, K: Sink, W: Watch>(
     ensures gone { GoesBy S.left K.taken W.refused true source.old source.new sink.old sink.new watch.old watch.new on.old result }
     ensures streams { UsesStreams S.asked S.failures K.failures source.old source.new sink.old sink.new on.old.begun.script on.old.begun.first result }
 {
-    let entered = run_commands::<P, Entries, C, S, K, W>(
+    let entered = run_commands::<P, ByEntry, C, S, K, W>(
         &mut on.begun,
         collector,
         source,

@@ -48,8 +48,8 @@ pub use tg_parallel::MOST_HELPERS;
 pub use tg_store::Limits;
 pub use tg_text::{
     Answer, Bytes, Count, Line, MOST_BOXES, MOST_BYTES, MOST_LINE_BYTES, Next, OfRead, OfWrite,
-    Put, Refusal, ScriptFault, Sink, Source, StockFault, StockItem, WriteFailed, Written, put_all,
-    put_texts, read_line, read_stock, write_reply,
+    Put, Refusal, ScriptFault, Sink, Source, StockFault, StockItem, WriteFailed, Written,
+    is_refusal, put_all, put_texts, read_line, read_stock, write_reply,
 };
-pub use watch::{NumberedLine, Unwatched, Watch, is_refusal};
+pub use watch::{NumberedLine, Unwatched, Watch};
 pub use whole::{WholeScript, read_script};

@@ -16,7 +16,7 @@ use crate::opening::{Front, open_store, read_edges};
 use crate::run::Run;
 use crate::script::Script;
 use crate::supply::Supply;
-use crate::telling::{Replies, Telling};
+use crate::telling::{ByReply, Telling};
 use crate::watch::{NumberedLine, Unwatched, Watch};
 use std::alloc::Global;
 use std::marker::Brand;
@@ -131,7 +131,7 @@ fn run_replies<P: Payload, C: Collector, S: Source, K: Sink, W: Watch>(
 {
     match begin(means.alloc, source, sink, setup) {
         Ok(mut begun) => {
-            let outcome = run_commands::<P, Replies, C, S, K, W>(
+            let outcome = run_commands::<P, ByReply, C, S, K, W>(
                 &mut begun,
                 means.collector,
                 source,

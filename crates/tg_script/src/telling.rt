@@ -53,9 +53,9 @@ pub(crate) trait Telling {
 }
 
 /// Each line is reported by its reply. Entries are given up, many at a time, and a long list at once.
-pub(crate) struct Replies;
+pub(crate) struct ByReply;
 
-impl Holding for Replies {
+impl Holding for ByReply {
     ghost holds = { false };
 
     #[inline(always)]
@@ -66,7 +66,7 @@ impl Holding for Replies {
     }
 }
 
-impl Telling for Replies {
+impl Telling for ByReply {
     ghost told = { reply_of_line };
 
     #[inline(always)]
@@ -78,23 +78,23 @@ impl Telling for Replies {
         numbered: NumberedLine,
     ) -> Result<(), WriteFailed> {
         give_up_many(&mut run.store);
-        let answer = run.answer::<Replies, C>(collector, numbered.line);
+        let answer = run.answer::<ByReply, C>(collector, numbered.line);
         watch.see(&numbered, &answer);
         write_reply(sink, &answer)
     }
 }
 
 /// Each line is reported by the entry that it made, if it made one. The entry is given up once it was written.
-pub(crate) struct Entries;
+pub(crate) struct ByEntry;
 
-impl Holding for Entries {
+impl Holding for ByEntry {
     ghost holds = { true };
 
     #[inline(always)]
     fn heed<P: Payload>(_store: &mut Store<P>, _reply: &Reply) {}
 }
 
-impl Telling for Entries {
+impl Telling for ByEntry {
     ghost told = { entry_of_line };
 
     fn run_line<P: Payload, C: Collector, K: Sink, W: Watch>(
@@ -106,7 +106,7 @@ impl Telling for Entries {
     ) -> Result<(), WriteFailed> {
         // Those of the lines before were written.
         give_up_entries(&mut run.store);
-        let answer = run.answer::<Entries, C>(collector, numbered.line);
+        let answer = run.answer::<ByEntry, C>(collector, numbered.line);
         watch.see(&numbered, &answer);
         write_entries(sink, run.store.journal().entries())
     }

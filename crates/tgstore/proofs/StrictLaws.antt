@@ -13,7 +13,8 @@ use Rattle.tg_text.specs.declared.answer.Answer.{Answer}
 use Rattle.tg_text.specs.declared.fault.ScriptFault.{ScriptFault}
 use Rattle.tg_text.specs.declared.stock.StockItem.TheVariants.{Cell}
 use Rattle.tg_script.specs.Script.{start_with}
-use Rattle.tg_script.specs.Watching.{IsSeen, Sees, SeesAll, says_refusal}
+use Rattle.tg_script.specs.Watching.{IsWatched, SeesOne, SeesAll}
+use Rattle.tg_text.specs.Refusing.{says_refusal}
 use Rattle.tgstore.specs.Boxes.{value_of_item}
 use Rattle.tgstore.specs.declared.start.Start.{Start}
 use Rattle.tgstore.specs.declared.stop.Stop.{Stop}
@@ -21,11 +22,11 @@ use Rattle.tgstore.specs.Strict.{HasStatus, WatchesFrom, seen_if, status_if}
 
 -- ---- one answer
 
-pub seen_noted : (strict had strict' had' : Bool) (a : Answer) → strict ≡ true → strict' ≡ strict → had' ≡ (had || says_refusal a) → Sees (seen_if strict had) a (seen_if strict' had')
+pub seen_noted : (strict had strict' had' : Bool) (a : Answer) → strict ≡ true → strict' ≡ strict → had' ≡ (had || says_refusal a) → SeesOne (seen_if strict had) a (seen_if strict' had')
 seen_noted false had strict' had' a on same noted = absurd (false≢true on)
 seen_noted true had strict' had' a on same noted = ap (λ (x : Bool). seen_if x had') same ∙ ap Some noted
 
-pub unseen : (strict had : Bool) (a : Answer) → strict ≡ false → Sees (seen_if strict had) a (seen_if strict had)
+pub unseen : (strict had : Bool) (a : Answer) → strict ≡ false → SeesOne (seen_if strict had) a (seen_if strict had)
 unseen false had a off = tt
 unseen true had a off = absurd (false≢true (sym off))
 
@@ -36,14 +37,14 @@ pub no_race_seen : (left left' taken taken' : Option (List ℕ)) (saw saw' : Opt
 no_race_seen left left' taken taken' saw saw' start (Err why) race = tt
 no_race_seen left left' taken taken' saw saw' start (Ok done) race = λ bytes before leaves takes alone. absurd (false≢true (sym alone ∙ race))
 
-seen_from : (left left' taken taken' : Option (List ℕ)) (saw saw' : Option Bool) (start : Start) (values stock : List Value) → values ≡ replicate start.settings.workers (value_of_item Cell) → stock ≡ map value_of_item start.stock.items → ((bytes before : List ℕ) → left ≡ Some bytes → taken ≡ Some before → (rest : List ℕ) × (left' ≡ Some rest) × IsSeen start.entries (start_with start.settings values stock) bytes before rest taken' saw saw') → WatchesFrom start left left' taken taken' saw saw'
+seen_from : (left left' taken taken' : Option (List ℕ)) (saw saw' : Option Bool) (start : Start) (values stock : List Value) → values ≡ replicate start.settings.workers (value_of_item Cell) → stock ≡ map value_of_item start.stock.items → ((bytes before : List ℕ) → left ≡ Some bytes → taken ≡ Some before → (rest : List ℕ) × (left' ≡ Some rest) × IsWatched start.entries (start_with start.settings values stock) bytes before rest taken' saw saw') → WatchesFrom start left left' taken taken' saw saw'
 seen_from left left' taken taken' saw saw' start values stock workers boxes seen bytes before leaves takes alone =
     let had = seen bytes before leaves takes in
-    let P : List Value → Type 0 = λ x. IsSeen start.entries (start_with start.settings x stock) bytes before had.0 taken' saw saw' in
-    let Q : List Value → Type 0 = λ x. IsSeen start.entries (start_with start.settings (replicate start.settings.workers (value_of_item Cell)) x) bytes before had.0 taken' saw saw' in
+    let P : List Value → Type 0 = λ x. IsWatched start.entries (start_with start.settings x stock) bytes before had.0 taken' saw saw' in
+    let Q : List Value → Type 0 = λ x. IsWatched start.entries (start_with start.settings (replicate start.settings.workers (value_of_item Cell)) x) bytes before had.0 taken' saw saw' in
     (had.0, had.1, subst Q boxes (subst P workers had.2))
 
-pub seen_run : (left left' taken taken' : Option (List ℕ)) (saw saw' : Option Bool) (start : Start) (values stock : List Value) (outcome : Result (Unit {0}) ScriptFault) → values ≡ replicate start.settings.workers (value_of_item Cell) → stock ≡ map value_of_item start.stock.items → OnOk outcome ((bytes before : List ℕ) → left ≡ Some bytes → taken ≡ Some before → (rest : List ℕ) × (left' ≡ Some rest) × IsSeen start.entries (start_with start.settings values stock) bytes before rest taken' saw saw') → OnOk outcome (WatchesFrom start left left' taken taken' saw saw')
+pub seen_run : (left left' taken taken' : Option (List ℕ)) (saw saw' : Option Bool) (start : Start) (values stock : List Value) (outcome : Result (Unit {0}) ScriptFault) → values ≡ replicate start.settings.workers (value_of_item Cell) → stock ≡ map value_of_item start.stock.items → OnOk outcome ((bytes before : List ℕ) → left ≡ Some bytes → taken ≡ Some before → (rest : List ℕ) × (left' ≡ Some rest) × IsWatched start.entries (start_with start.settings values stock) bytes before rest taken' saw saw') → OnOk outcome (WatchesFrom start left left' taken taken' saw saw')
 seen_run left left' taken taken' saw saw' start values stock (Err fault) workers boxes seen = tt
 seen_run left left' taken taken' saw saw' start values stock (Ok done) workers boxes seen = seen_from left left' taken taken' saw saw' start values stock workers boxes seen
 

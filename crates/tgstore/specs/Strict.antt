@@ -2,7 +2,8 @@
 use Rattle.std.specs.Prelude.{◌≡◌, ℕ, Bool, true, false, List, Option, Some, None, if◌then◌else◌}
 use Rattle.std.specs.List.{list_any}
 use Rattle.tg_text.specs.declared.answer.Answer.{Answer}
-use Rattle.tg_script.specs.Watching.{IsAnswered, IsSeen, says_refusal}
+use Rattle.tg_script.specs.Watching.{RanToEnd, IsWatched}
+use Rattle.tg_text.specs.Refusing.{says_refusal}
 use Rattle.tgstore.specs.Serving.{script_start_of}
 use Rattle.tgstore.specs.declared.start.Start.{Start}
 
@@ -21,12 +22,12 @@ status_if false saw = 0
 abbrev pub WatchesFrom : Start → Option (List ℕ) → Option (List ℕ) → Option (List ℕ) → Option (List ℕ) → Option Bool → Option Bool → Type 0
 WatchesFrom start left left' taken taken' saw saw' =
     (bytes before : List ℕ) → left ≡ Some bytes → taken ≡ Some before → start.race ≡ false →
-    (rest : List ℕ) × (left' ≡ Some rest) × IsSeen start.entries (script_start_of start) bytes before rest taken' saw saw'
+    (rest : List ℕ) × (left' ≡ Some rest) × IsWatched start.entries (script_start_of start) bytes before rest taken' saw saw'
 
 -- The exit status of a run to the end of its script: 3 exactly where the run is strict and one of the answers to its lines is a denial or
 -- a refusal, else 0. These answers are those whose text was written, or that of their history.
 abbrev pub HasStatus : Start → Option (List ℕ) → Option (List ℕ) → Option (List ℕ) → Option (List ℕ) → ℕ → Type 0
 HasStatus start left left' taken taken' status =
     (bytes before : List ℕ) → left ≡ Some bytes → taken ≡ Some before → start.race ≡ false →
-    (rest : List ℕ) × (answers : List Answer) × (left' ≡ Some rest) × IsAnswered start.entries (script_start_of start) bytes before rest taken' answers
+    (rest : List ℕ) × (answers : List Answer) × (left' ≡ Some rest) × RanToEnd start.entries (script_start_of start) bytes before rest taken' answers
     × (status ≡ status_if start.strict (list_any says_refusal answers))

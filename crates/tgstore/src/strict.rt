@@ -1,6 +1,6 @@
 //! Lines that were denied or refused, which a strict run reports.
 ghost use Rattle.std.specs.Prelude.{◌≡◌, ◌||◌, false};
-ghost use Rattle.tg_script.specs.Watching.{says_refusal};
+ghost use Rattle.tg_text.specs.Refusing.{says_refusal};
 ghost use Rattle.tgstore.specs.Strict.{status_if};
 
 use std::io::Eprint;

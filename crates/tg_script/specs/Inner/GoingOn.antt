@@ -11,7 +11,7 @@ use Rattle.tg_text.specs.Sinks.{KeepsBytes}
 use Rattle.tg_script.specs.declared.going.BegunOn.{BegunOn}
 use Rattle.tg_script.specs.declared.going.RunOn.{RunOn}
 use Rattle.tg_script.specs.declared.script.Script.{Script}
-use Rattle.tg_script.specs.GoingOn.{lines_text, scene_on, whole_text}
+use Rattle.tg_script.specs.GoingOn.{answers_text, scene_on, whole_text}
 use Rattle.tg_script.specs.Lines.{CountsFailures, IsOfKeeping, read_failures, write_failures}
 use Rattle.tg_script.specs.Opening.{edge_lines}
 use Rattle.tg_script.specs.Script.{Scene}
@@ -35,7 +35,7 @@ StandsGone entries count s bytes t first before saw (Err fault.WriteFailed) left
     (answers : List Answer) × (es : List Entry) × (front : List ℕ) × (rest : List ℕ) × LinesGone s bytes t first (Some fault.WriteFailed) left answers es
     × (whole_text entries count answers es ≡ front ++ rest) × (after ≡ Some (before ++ front))
 StandsGone entries count s bytes t first before saw (Err f) left after saw' =
-    (answers : List Answer) × (es : List Entry) × LinesGone s bytes t first (Some f) left answers es × (after ≡ Some (before ++ lines_text entries answers es))
+    (answers : List Answer) × (es : List Entry) × LinesGone s bytes t first (Some f) left answers es × (after ≡ Some (before ++ answers_text entries answers es))
 
 -- how many entries the text has that the run goes on with
 abbrev pub count_on : {P : Type 0} → BegunOn P → ℕ

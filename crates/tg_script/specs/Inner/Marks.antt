@@ -11,7 +11,8 @@ use Rattle.tg_script.specs.declared.script.Script.{Script}
 use Rattle.tg_script.specs.Inner.Run.{Shows}
 use Rattle.tg_script.specs.Inner.Telling.{LineText, ReadsCommands, TellsFirst}
 use Rattle.tg_script.specs.Script.{Scene}
-use Rattle.tg_script.specs.Watching.{AreAnswered, SeesAll, says_refusal, text_as}
+use Rattle.tg_script.specs.Watching.{AreAnswered, SeesAll, text_as}
+use Rattle.tg_text.specs.Refusing.{says_refusal}
 
 -- ---- one text
 

@@ -16,11 +16,11 @@ use Rattle.tg_script.specs.declared.run.Run.{Run}
 use Rattle.tg_script.specs.declared.run_script.Begun.{Begun}
 use Rattle.tg_script.specs.declared.script.Script.{Script}
 use Rattle.tg_script.specs.Entering.{AreEntered, entered, unended_text}
-use Rattle.tg_script.specs.Lines.{CountsFailures, IsBehind, IsOfReading, ReadsFrom, read_failures, write_failures}
+use Rattle.tg_script.specs.Lines.{CountsFailures, IsRestAfter, IsOfReading, ReadsFrom, read_failures, write_failures}
 use Rattle.tg_script.specs.Inner.Run.{Handles, MakesEntry, Shows}
 use Rattle.tg_script.specs.Script.{Scene, Serves}
 use Rattle.tg_script.specs.Inner.Supply.{values_left}
-use Rattle.tg_script.specs.Watching.{Sees}
+use Rattle.tg_script.specs.Watching.{SeesOne}
 
 -- ---- what is reported of lines
 
@@ -37,7 +37,7 @@ entry_of_line l a stock = flat_map entry_text (entered l a stock)
 -- the line was answered, its entry was made, what is told of it was written, or a front of that, and a watch has seen the answer
 abbrev pub RunsLine : {P T E : Type 0} → LineText → Run P → Line → Run P → Option (List ℕ) → ℕ → Result T E → Option (List ℕ) → ℕ → Option Bool → Option Bool → Type 0
 RunsLine told old l new before failures result after failures' saw saw' =
-    (a : Answer) × Handles old l a new × MakesEntry old l a new × Writes before failures (told l a (values_left old.supply)) result after failures' × Sees saw a saw'
+    (a : Answer) × Handles old l a new × MakesEntry old l a new × Writes before failures (told l a (values_left old.supply)) result after failures' × SeesOne saw a saw'
 
 -- the text for the lines, and their entries
 abbrev pub TellsLines : LineText → Scene → List Line → List ℕ → List Entry → Type 0
@@ -69,7 +69,7 @@ StandsTold told s bytes t first begun before end left entries after =
 -- what is reported of one of them was cut short, and this much of the text stands
 abbrev pub CutsTold : LineText → Script → List ℕ → Scene → Line → List ℕ → List ℕ → List Entry → Type 0
 CutsTold told s bytes t first left front es =
-    (lines : List Line) × ReadsFrom s bytes lines (Some fault.WriteFailed) left × IsBehind lines bytes left × TellsCut told t (first ∷ lines) front es
+    (lines : List Line) × ReadsFrom s bytes lines (Some fault.WriteFailed) left × IsRestAfter lines bytes left × TellsCut told t (first ∷ lines) front es
 
 -- such a part of a text is after what was written before, and such entries after those that there were
 abbrev pub StandsCut : LineText → Script → List ℕ → Scene → Line → List Entry → List ℕ → List ℕ → List Entry → Option (List ℕ) → Type 0

@@ -9,8 +9,8 @@ ghost use Rattle.tg_rows.specs.Rows.{IsVertexAt};
 ghost use Rattle.tg_graph.specs.Heap.{IsActive, IsObject, content_of, name_of, subject_names};
 ghost use Rattle.tg_graph.specs.Standing.{IsContentOf, IsReached};
 ghost use Rattle.tg_store.specs.Holding.{common};
-ghost use Rattle.tg_store.specs.Inner.Reaching.{AreBelow, AreReachedAlong, FindsIn, IsFoundIn, edges_over, names_found, names_sharing};
-ghost use Rattle.tg_store.specs.Inner.Withdrawing.{content_left};
+ghost use Rattle.tg_store.specs.Inner.Reaching.{AreBelow, AreReachedAlong, FindsIn, IsFoundIn, edges_over, names_found};
+ghost use Rattle.tg_store.specs.Inner.Withdrawing.{content_left, holders_left};
 ghost use Rattle.tg_store.specs.Withdrawing.{given_up, givers_among, labels_left, removal_over};
 
 use crate::leaving::removal;
@@ -88,7 +88,7 @@ impl Withdrawal {
     ) -> Result<Vec<u64>, AllocError>
         requires { AreBelow (content_of heap.now) made }
         ensures { IfOk result (λ names. (vertices : List (ℕ × PlaceOf)) × AreReachedAlong heap.now (content_left self.now (content_of heap.now)) vertices
-            × (names.items ≡ names_sharing self.now.rights (edges_over (content_left self.now (content_of heap.now)).label self.now.target vertices))) }
+            × (names.items ≡ holders_left self.now (content_of heap.now) vertices)) }
     {
         let reached = self.reached_after(alloc, heap, made)?;
         let edges = self.edges_after(alloc, heap, reached.as_slice())?;
