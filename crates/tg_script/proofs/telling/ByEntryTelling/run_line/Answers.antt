@@ -8,7 +8,7 @@ use Rattle.tg_script.specs.Inner.Supply.{values_left}
 use Rattle.tg_text.specs.Sinks.{Writes}
 use Rattle.tg_script.proofs.EnteringLaws.{held_since}
 use Rattle.tg_script.proofs.RunLaws.{handles_before, makes_before}
-use Rattle.tg_script.proofs.telling.EntriesTelling.run_line.Goals as goal
+use Rattle.tg_script.proofs.telling.ByEntryTelling.run_line.Goals as goal
 
 -- What the journal holds after the line is what the line made.
 pub returns : goal.returns

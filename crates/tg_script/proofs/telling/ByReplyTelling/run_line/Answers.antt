@@ -1,6 +1,6 @@
 use Rattle.tg_script.specs.Inner.Supply.{values_left}
 use Rattle.tg_script.proofs.RunLaws.{handles_before, makes_before}
-use Rattle.tg_script.proofs.telling.RepliesTelling.run_line.Goals as goal
+use Rattle.tg_script.proofs.telling.ByReplyTelling.run_line.Goals as goal
 
 pub returns : goal.returns
 returns g c =
