@@ -1,8 +1,7 @@
 -- The entries by which a user is parked are legal, and the account then holds what the user held.
 use mathlib.Core.Bool.{true≢false}
-use Rattle.std.proofs.Common.{◌≡◌, ◌≢◌, ◌∙◌, inl, inr, ℕ, ◌+◌, ◌<◌, ◌≤◌, ◌==◌, ◌&&◌, nat_lt, Bool, true, false, not, cond, List, [], ◌∷◌, ◌++◌, map, refl, sym, ap, subst, arith}
+use Rattle.std.proofs.Common.{◌≡◌, ◌≢◌, ◌∙◌, inl, ℕ, ◌<◌, ◌==◌, ◌&&◌, true, false, cond, List, [], ◌∷◌, ◌++◌, map, refl, sym, ap, subst, arith}
 use Rattle.std.specs.Prelude.{None}
-use Rattle.std.specs.List.{Contains}
 use Rattle.std.proofs.lemmas.Bool.{and_parts, eqb-true, eqb-false, eq-eqb, ne_eqb}
 use Rattle.tg_rights.specs.RightSet.{RightSet, holds_all, is_none_held, minus, no_rights, only, union}
 use Rattle.tg_rights.specs.declared.Right.TheVariants as right
@@ -19,10 +18,10 @@ use Rattle.tg_journal.specs.History.{IsLegal, IsLegalEntry, graph_after}
 use Rattle.tg_journal.proofs.HistoryLaws.{IsLegal-append, IsLegal-push, IsSound-after, graph_after-append, graph_after-push}
 use Rattle.tg_store.specs.declared.parking.Parking.{Parking}
 use Rattle.tg_store.specs.Handing.{done_by}
-use Rattle.tg_store.specs.Leaving.{leaving, left_by, removal, retiring}
+use Rattle.tg_store.specs.Leaving.{leaving, removal, retiring}
 use Rattle.tg_store.specs.Parking.{IsUnused, MayPark, filling, key_of, parked, parking, putting, with_account}
 use Rattle.tg_store.specs.Inner.Parking.{given}
-use Rattle.tg_store.proofs.FillLaws.{AreEdges, given_others, given_own, has_name, minus_none, minus_self, row_edges, row_from, row_has, with_others, with_own}
+use Rattle.tg_store.proofs.FillLaws.{AreEdges, given_others, given_own, has_name, minus_self, row_edges, row_from, row_has, with_others, with_own}
 use Rattle.tg_store.proofs.LeaveLaws.{graph_left, legal_leaving}
 
 abbrev with_labels : ProtectionGraph → (ℕ → ℕ → RightSet) → ProtectionGraph

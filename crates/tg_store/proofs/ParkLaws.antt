@@ -1,6 +1,5 @@
 -- The heap whose account was given the user's edges, and from which the user has left, represents the graph afterwards.
-use mathlib.Core.Bool.{true≢false}
-use Rattle.std.proofs.Common.{◌≡◌, ◌≢◌, ◌∙◌, ◌⊎◌, inl, inr, ⊎_elim, ℕ, zero, suc, ◌+◌, ◌<◌, ◌==◌, ◌&&◌, Bool, true, false, not, cond, List, [], ◌∷◌, ◌++◌, length, map, take, get_or, append_assoc, refl, sym, ap, subst, arith}
+use Rattle.std.proofs.Common.{◌≡◌, ◌∙◌, inl, inr, ⊎_elim, ℕ, zero, suc, ◌+◌, ◌<◌, ◌==◌, ◌&&◌, Bool, true, false, cond, List, [], ◌∷◌, ◌++◌, length, map, take, get_or, append_assoc, refl, sym, ap, subst, arith}
 use Rattle.std.specs.Prelude.{Some, None, Result, Ok, Err, IfOk, OnErr}
 use Rattle.std.specs.List.{All, Contains, sum_by}
 use Rattle.std.proofs.lemmas.Bool.{eqb-true, eqb-false, eq-eqb, false≢true}
@@ -9,12 +8,11 @@ use Rattle.std.proofs.lemmas.List.Sums.{get_or-le-sum_by}
 use Rattle.tg_rights.specs.RightSet.{RightSet, is_none_held, minus, no_rights, only, union}
 use Rattle.tg_rights.specs.declared.Right.TheVariants as right
 use Rattle.tg_rights.proofs.RightLaws.{none_held-same}
-use Rattle.tg_model.specs.declared.command.Command.TheVariants.{Retire}
 use Rattle.tg_model.specs.declared.command.Deed.TheVariants.{Plain}
 use Rattle.tg_model.specs.declared.reply.Denial.{Denial}
 use Rattle.tg_model.specs.declared.reply.Reply.TheVariants as reply
 use Rattle.tg_model.specs.Walks.{begins, Walk-within}
-use Rattle.tg_model.specs.Graph.{ProtectionGraph, HasEdge, IsReachable, IsSound, IsSubject, listing_of, with_rights, without_rights, without_subject}
+use Rattle.tg_model.specs.Graph.{ProtectionGraph, HasEdge, IsSound, IsSubject, listing_of, with_rights, without_rights, without_subject}
 use Rattle.tg_model.specs.Rules.{Permits, denial_of, step}
 use Rattle.tg_model.proofs.AllowedLaws.{answer-denied, permits-no_denial, step-denied}
 use Rattle.tg_model.proofs.ReachLaws.{HasEdge-holds}
@@ -37,13 +35,13 @@ use Rattle.tg_store.specs.declared.parking.Parked.TheVariants.{Done, Denied}
 use Rattle.tg_store.specs.declared.parking.ParkFault.{ParkFault}
 use Rattle.tg_store.specs.declared.parking.Parking.{Parking}
 use Rattle.tg_store.specs.declared.parking.Sides.{Sides}
-use Rattle.tg_store.specs.Leaving.{graph_after_leave, leaving, left_by, removal, retiring}
+use Rattle.tg_store.specs.Leaving.{graph_after_leave, removal, retiring}
 use Rattle.tg_store.specs.Parking.{ComesOfParking, IsInUse, IsParked, IsParkingDenied, IsUnused, KeepsGraph, filling, key_of, parked, parking, with_account}
 use Rattle.tg_store.specs.Inner.Parking.{IsGiven, IsGivenUpAgain, IsParkedOnHeap, IsParkingDeniedOnHeap, IsRowOf, IsTakenBack, KeepsContent, ParksOnHeap, ParksSomeRow, given, parking_of, taken_back}
-use Rattle.tg_store.specs.Store.{StoreState, Enters, IsFaithful, IsStore, StandsFor, graph_of_store}
+use Rattle.tg_store.specs.Store.{StoreState, Enters, IsFaithful, IsStore, graph_of_store}
 use Rattle.tg_store.proofs.FillLaws.{AreEdges, given_others, given_own, given_push, has_name, row_edges, row_has, taken_push, undone}
 use Rattle.tg_store.proofs.LeaveLaws.{graph_left, legal_removals, listed}
-use Rattle.tg_store.proofs.ParkGraph.{edges, graph_filled, graph_parked, legal_parking, may_park, not_in_row, not_none, permitted, same_listing, sound_filled}
+use Rattle.tg_store.proofs.ParkGraph.{graph_parked, legal_parking, may_park, not_in_row, same_listing, sound_filled}
 use Rattle.tg_store.proofs.StandLaws.{IsStore-entered, IsStore-grown, IsStore-kept, graph-entered, graph-grown, sound_of}
 
 -- ---- a row that the heap lists

@@ -1,6 +1,5 @@
 -- The grant that is decided is the host's.
 use Rattle.std.proofs.Common.{◌≡◌, ◌∙◌, ◌++◌, ◌∷◌, [], ap, refl, sym}
-use Rattle.std.specs.Prelude.{None, Some}
 use Rattle.tg_model.specs.declared.command.Command.{Command}
 use Rattle.tg_model.specs.declared.command.Deed.TheVariants.{Plain}
 use Rattle.tg_model.specs.Rules.{denial_of}

@@ -1,5 +1,4 @@
 use Rattle.std.proofs.Common.{refl}
-use Rattle.tg_store.proofs.Apart.{false_not_true}
 use Rattle.tg_store.proofs.AnswerLaws.{subject_found}
 use Rattle.tg_store.proofs.parking.find_sides.Goals as goal
 

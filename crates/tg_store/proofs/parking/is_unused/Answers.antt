@@ -1,8 +1,6 @@
 -- A row without an edge is that of a vertex that holds nothing.
-use Rattle.std.proofs.Common.{◌≡◌, ◌∙◌, inl, inr, ℕ, List, [], length, ap, refl, sym, subst}
-use Rattle.std.specs.List.{All}
-use Rattle.tg_rights.specs.RightSet.{RightSet}
-use Rattle.tg_model.specs.Graph.{HasEdge, listing_of}
+use Rattle.std.proofs.Common.{◌∙◌, inl, inr, ℕ, ap, refl, sym, subst}
+use Rattle.tg_model.specs.Graph.{HasEdge}
 use Rattle.tg_graph.specs.Heap.{content_of}
 use Rattle.tg_store.specs.Inner.Parking.{IsRowOf}
 use Rattle.tg_store.proofs.ParkLaws.{listed_edges, nothing_listed, row_empty, row_some, something_listed}

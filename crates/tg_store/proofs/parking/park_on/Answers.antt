@@ -1,6 +1,5 @@
 -- The row that is listed is the user's, and there is room for all entries.
 use Rattle.std.proofs.Common.{ℕ, ap, length, refl, subst, arith}
-use Rattle.std.specs.Prelude.{IfOk, OnErr}
 use Rattle.tg_graph.specs.Heap.{content_of}
 use Rattle.tg_store.specs.Inner.Parking.{IsRowOf}
 use Rattle.tg_store.proofs.ParkLaws.{keeps_all, keeps_roomy, parks_some, when_refused}

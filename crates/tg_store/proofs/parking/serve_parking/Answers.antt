@@ -1,5 +1,5 @@
 -- The host holds grant over the account, so the heap has it. What is entered is what was done.
-use Rattle.std.proofs.Common.{◌≡◌, ◌≢◌, ◌∙◌, ◌++◌, ◌∷◌, [], ℕ, List, ap, refl, sym, subst, length, map, arith}
+use Rattle.std.proofs.Common.{◌≢◌, ◌∙◌, ◌++◌, ◌∷◌, [], ℕ, List, ap, refl, sym, subst, length, map, arith}
 use Rattle.tg_rights.specs.RightSet.{RightSet, only}
 use Rattle.tg_rights.specs.declared.Right.TheVariants as right
 use Rattle.tg_model.specs.Graph.{HasEdge, without_subject}
@@ -7,15 +7,13 @@ use Rattle.tg_model.specs.Rules.{Permits}
 use Rattle.tg_model.proofs.AllowedLaws.{permits-no_denial}
 use Rattle.tg_model.proofs.ReachLaws.{HasEdge-holds}
 use Rattle.std.specs.List.{All}
-use Rattle.tg_rows.specs.Content.{IsSameContent}
-use Rattle.tg_graph.specs.Heap.{content_of, name_of, subject_names}
-use Rattle.tg_graph.proofs.StandingLaws.{IsSameContent-self}
+use Rattle.tg_graph.specs.Heap.{content_of}
 use Rattle.tg_subjects.specs.Subjects.{names_of}
 use Rattle.tg_subjects.specs.declared.subject.Subject.{Subject}
 use Rattle.tg_store.specs.declared.parking.Parking.{Parking}
 use Rattle.tg_store.specs.Leaving.{removal, retiring}
 use Rattle.tg_store.specs.Parking.{filling, key_of}
-use Rattle.tg_store.specs.Inner.Parking.{IsGiven, IsGivenUpAgain, IsParkedOnHeap, parking_of}
+use Rattle.tg_store.specs.Inner.Parking.{IsGiven, IsGivenUpAgain, parking_of}
 use Rattle.tg_store.proofs.ParkLaws.{each_edge, listed_edges, same_again, subject_kept, when_refused}
 use Rattle.tg_store.proofs.parking.serve_parking.Goals as goal
 

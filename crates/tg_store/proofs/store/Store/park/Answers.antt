@@ -1,10 +1,7 @@
 -- What parking does on the heap and enters is what it does on the graph.
-use Rattle.std.proofs.Common.{◌≡◌, ◌∙◌, ℕ, List, ap, refl, subst, sym}
+use Rattle.std.proofs.Common.{◌≡◌, ℕ, ap, refl, subst, sym}
 use Rattle.std.proofs.lemmas.Result.{err_from_is_err_and}
-use Rattle.tg_rights.specs.RightSet.{RightSet}
-use Rattle.tg_model.specs.Graph.{ProtectionGraph, IsSubject, listing_of}
-use Rattle.tg_rows.specs.Content.{IsNamed}
-use Rattle.tg_graph.specs.Heap.{IsActive, content_of}
+use Rattle.tg_model.specs.Graph.{ProtectionGraph, IsSubject}
 use Rattle.tg_store.specs.declared.parking.Parking.{Parking}
 use Rattle.tg_store.specs.Parking.{ComesOfParking, IsInUse, KeepsGraph}
 use Rattle.tg_store.specs.Inner.Parking.{parking_of}
