@@ -15,6 +15,9 @@ mod ReachingLaws
 mod PictureLaws
 mod SavedLaws
 mod LeaveLaws
+mod FillLaws
+mod ParkGraph
+mod ParkLaws
 mod HandLaws
 mod WithdrawLaws
 mod LeftLaws

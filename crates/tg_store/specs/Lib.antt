@@ -10,6 +10,7 @@ pub mod Collecting
 pub mod Made
 pub mod Leaving
 pub mod Handing
+pub mod Parking
 pub mod Withdrawing
 pub mod Holding
 pub mod Again

@@ -174,8 +174,8 @@ fn enter_hand(journal: &mut TalliedJournal, hand: &Hand, removed: &Option<Label>
     }
 }
 
-// The entry of a command that is done.
-fn done_by(worker: u64, command: Command) -> Entry
+/// The entry of a command that is done.
+pub(crate) fn done_by(worker: u64, command: Command) -> Entry
     ensures { result ≡ done_by worker command }
 {
     Entry {

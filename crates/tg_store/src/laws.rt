@@ -1,7 +1,7 @@
 //! Laws of the definitions in which contracts speak of stores. A function here does nothing. Its `ensures` is the law.
 ghost use Rattle.std.specs.Prelude.{◌≡◌, ◌≢◌, ◌↔◌, ◌⊎◌, ◌<◌, [], ℕ, List, None, false, true};
 ghost use Rattle.std.specs.List.{Contains};
-ghost use Rattle.tg_rights.specs.RightSet.{RightSet, has, is_none_held};
+ghost use Rattle.tg_rights.specs.RightSet.{RightSet, has, is_none_held, no_rights};
 ghost use Rattle.tg_rights.specs.declared.Right.{Right};
 ghost use Rattle.tg_model.specs.Graph.{ProtectionGraph, IsSound, IsSubject};
 ghost use Rattle.tg_journal.specs.declared.entry.Entry.{Entry};
@@ -9,6 +9,8 @@ ghost use Rattle.tg_journal.specs.History.{IsLegal, graph_after};
 ghost use Rattle.tg_store.specs.Holding.{common};
 ghost use Rattle.tg_store.specs.declared.handing.Hand.{Hand};
 ghost use Rattle.tg_store.specs.Handing.{MayHand, denied_in_hand};
+ghost use Rattle.tg_store.specs.declared.parking.Parking.{Parking};
+ghost use Rattle.tg_store.specs.Parking.{parked};
 ghost use Rattle.tg_store.specs.Store.{StandsFor};
 ghost use Rattle.tg_store.specs.Withdrawing.{AreHoldersOfSome, withdrawn};
 
@@ -44,4 +46,15 @@ pub fn a_withdrawal_takes_exactly_these_rights()
         (withdrawn g y rights keep).label a b ≡ g.label a b }
     ensures rest { (g : ProtectionGraph) (y : ℕ) (rights : RightSet) (keep : List ℕ) (a b : ℕ) (right : Right) → has rights right ≡ false →
         has ((withdrawn g y rights keep).label a b) right ≡ has (g.label a b) right }
+{}
+
+/// What parking does to labels and subjects, in plain words. The account holds exactly what the user held.
+/// The user holds nothing and is no subject any more. Each label of another vertex stays, and each other subject does.
+pub fn parking_moves_what_the_user_held()
+    ensures account { (g : ProtectionGraph) (p : Parking) (y : ℕ) → p.user ≢ p.account → (parked g p).label p.account y ≡ g.label p.user y }
+    ensures user { (g : ProtectionGraph) (p : Parking) (y : ℕ) → (parked g p).label p.user y ≡ no_rights }
+    ensures left { (g : ProtectionGraph) (p : Parking) → ¬ IsSubject (parked g p) p.user }
+    ensures labels { (g : ProtectionGraph) (p : Parking) (x y : ℕ) → x ≢ p.account → x ≢ p.user → (parked g p).label x y ≡ g.label x y }
+    ensures subjects { (g : ProtectionGraph) (p : Parking) (x : ℕ) → x ≢ p.user → IsSubject (parked g p) x ↔ IsSubject g x }
+    ensures rest { (g : ProtectionGraph) (p : Parking) → ((parked g p).made ≡ g.made) × ((parked g p).value ≡ g.value) }
 {}

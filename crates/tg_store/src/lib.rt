@@ -10,6 +10,7 @@
 //! out. Contracts speak of this graph. [`Store::apply`] answers what the rules answer on it, and then the store has the
 //! next graph by the rules. [`Store::create`] and [`Store::spawn`] do the same. [`Store::apply_all`] takes several
 //! commands of one worker in a row. [`Store::hand`] hands rights on by up to three commands, completely or not at all.
+//! [`Store::park`] puts all that a subject holds into an account, and the subject leaves, completely or not at all.
 //!
 //! ```text
 //!     opening --deeds of the journal--> graph        every reply is by this graph, and no collection changes it
@@ -47,6 +48,7 @@ pub mod laws;
 mod leaving;
 mod making;
 mod origin;
+mod parking;
 mod seen;
 mod store;
 mod store_fault;
@@ -60,6 +62,7 @@ pub use fault::{
 };
 pub use handing::{Hand, Handed};
 pub use leaving::{removal, retiring};
+pub use parking::{ParkFault, Parked, Parking};
 pub use store::Store;
 pub use store_fault::StoreFault;
 pub use tg_space::{Kind, Limits, RoomFault};

@@ -7,6 +7,7 @@ mod audit;
 mod hand;
 mod holders;
 mod leave;
+mod park;
 mod picture;
 mod reopen;
 mod snapshot;
