@@ -12,5 +12,6 @@ pub mod Leaving
 pub mod Handing
 pub mod Withdrawing
 pub mod Holding
+pub mod Seeing
 pub mod Again
 pub mod Inner
