@@ -5,6 +5,7 @@ mod CollectLaws
 mod MakingLaws
 mod DifferenceLaws
 mod HeldLaws
+mod SeeingLaws
 mod HoldingLaws
 pub mod HistoryLaws
 pub mod OriginLaws

@@ -13,5 +13,6 @@ pub mod Handing
 pub mod Parking
 pub mod Withdrawing
 pub mod Holding
+pub mod Seeing
 pub mod Again
 pub mod Inner

@@ -6,6 +6,7 @@ ghost use Rattle.tg_store.specs.Faults.{IsFirstDifference};
 mod audit;
 mod hand;
 mod holders;
+mod law;
 mod leave;
 mod park;
 mod picture;
