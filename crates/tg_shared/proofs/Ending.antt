@@ -62,7 +62,7 @@ got_count old new worker at all count left here there number =
     (omega (arith, long, grew, more, here, there, number), omega (arith, long, grew, more, here, there, number), omega (arith, long, grew, more, here, there, number))
 
 -- where nobody was ended, the keeper has looked
-nothing_noted : (v w : LockedState) (old new : KeeperState) → HasNotedEnd v w old new → IsUnchanged v.store w.store → (new.made ≡ old.made) × (new.seen ≡ v.signed)
+pub nothing_noted : (v w : LockedState) (old new : KeeperState) → HasNotedEnd v w old new → IsUnchanged v.store w.store → (new.made ≡ old.made) × (new.seen ≡ v.signed)
 nothing_noted v w old new noted same =
     let none = got_more v.store.entries w.store.entries [] (same.entries ∙ sym (append-nil v.store.entries)) in (
       noted.made ∙ ap (λ (l : List Entry). old.made ++ l) none ∙ append-nil old.made,

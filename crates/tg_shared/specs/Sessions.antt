@@ -61,7 +61,7 @@ pub record MayNote (session : SessionState) (state : List ℕ) : Type 0 where
   pub room : 0 < session.spare
   pub copy : session.copy ≡ state
 
--- What is in the lock: the store, how many sessions were made, how many entries the keeper made for workers that it ended, and all
+-- What is in the lock: the store, how many sessions were made, how many entries the keeper made for workers, and all
 -- entries since the start, with who made each.
 pub record LockedState : Type 0 where
   pub store : StoreState
@@ -69,7 +69,7 @@ pub record LockedState : Type 0 where
   pub entered : ℕ
   pub signed : List Signed
 
--- A keeper: the place at which the last part of the journal ended that it took, the entries that it made for workers that it ended,
+-- A keeper: the place at which the last part of the journal ended that it took, the entries that it made for workers,
 -- and those that it has seen, with who made each: all entries since the start, up to its last call.
 pub record KeeperState : Type 0 where
   pub next : ℕ
@@ -243,7 +243,7 @@ pub record IsRolled (start : SharedStart) (store : StoreState) (roll : RollState
 
 -- What holds of the value in the lock whenever the lock is free. The store keeps its promise. It is the shared one, with later
 -- entries, with exactly the entries since that the roll has, and so many of these are the keeper's as were counted. One session was
--- made for each subject of the start, and one for each that was made since. No worker was ended if the start lets nobody.
+-- made for each subject of the start, and one for each that was made since. The keeper made no entry if the start lets nobody be ended.
 pub record HoldsWhenFree (start : SharedStart) (locked : LockedState) : Type 0 where
   pub faithful : IsFaithful locked.store
   pub gone_on : GoesOn start locked.store
@@ -281,7 +281,7 @@ pub record OnlyLooked (old new : SessionState) : Type 0 where
   pub looked : HasLooked old new
   pub same : new ≡ record old { seen = new.seen }
 
--- A keeper that took the lock and ended nobody has seen all entries up to then. It made the same entries, which are exactly the
+-- A keeper that took the lock and made no entry has seen all entries up to then. It made the same entries, which are exactly the
 -- keeper's among those that it has seen.
 pub record KeeperLooked (old new : KeeperState) : Type 0 where
   pub same : new.made ≡ old.made
@@ -459,7 +459,7 @@ abbrev pub CountsAll : SharedStart → List SessionState → StoreState → Type
 CountsAll start sessions s = length s.entries ≡ length start.entries + handed_of sessions + count_of sessions
 
 -- What is found of so many entries, where there were so many when the store was shared, so many sessions were made, and the keeper
--- made so many entries for workers that he ended.
+-- made so many entries for workers.
 pub record AddsUp (start entries made entered : ℕ) (sessions : List SessionState) : Type 0 where
   -- the sessions represent no more than were made
   pub within : parts_of sessions ≤ made
@@ -492,7 +492,7 @@ pub record AreSharedOut (entries : List Entry) (sessions : List SessionState) : 
   pub each_of_one : All (λ e. count_by (λ s. s.worker == e.worker) sessions ≡ 1) entries
   pub own : All (λ s. map (λ r. r.entry) s.receipts ≡ filter (λ e. e.worker == s.worker) entries) sessions
 
--- What is said of the receipts of sessions none of which is missing, where no worker was ended.
+-- What is said of the receipts of sessions none of which is missing, where the keeper made no entry.
 pub record SharesOut (start : SharedStart) (s : StoreState) (sessions : List SessionState) : Type 0 where
   -- if as many receipts were handed out as entries, those that are left are of exactly the entries that the store holds
   pub shared_out : length start.entries + handed_of sessions ≡ held_from start s → AreSharedOut (drop (held_from start s) s.entries) sessions

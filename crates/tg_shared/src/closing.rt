@@ -39,19 +39,19 @@ impl<L: Round, P: Payload> Locked<L, P> {
 
     /// Ends a round. It hands out the store if all sessions are given back and their receipts are right. The journal
     /// has then grown by as many entries as there are receipts, and they are shared out among the sessions. What the
-    /// keeper entered for workers that it ended is counted beside the receipts, and shared out to nobody.
+    /// keeper entered for workers, in ends and withdrawals, is counted beside the receipts, and shared out to nobody.
     ///
     /// `SessionsMissing` is looked for first. It is returned exactly if the sessions count for fewer than were made.
     /// `ReceiptMismatch` is returned exactly if they count for as many, and may not close. What was handed in then
     /// comes back, and the sessions may be in another order. Takes no memory, and for n sessions time as n log n.
     ///
     /// In a store that was shared whole (`whole` of `shared_out`) no session has handed out a receipt. If the keeper
-    /// ended no worker, each entry made since is in exactly one receipt, and the receipts of each session are all its
+    /// made no entry, each entry made since is in exactly one receipt, and the receipts of each session are all its
     /// entries.
     ///
-    /// `ends` says this of each single session whose worker the keeper didn't end, whatever the other sessions did
-    /// (`single`). A session that handed out no receipt and took over nobody has receipts of all entries of its worker
-    /// since the store was shared.
+    /// `ends` says this of each single session for whose worker the keeper made no entry, whatever the other sessions
+    /// did (`single`). A session that handed out no receipt and took over nobody has receipts of all entries of its
+    /// worker since the store was shared.
     ///
     /// It also says who made each entry since the store was shared (`signed`). Each session made exactly its own, and
     /// the entries begin with the entries that the session has seen. So an answer to a session is an answer on the
@@ -77,8 +77,8 @@ impl<L: Round, P: Payload> Locked<L, P> {
     }
 
     /// Ends a round whose sessions may be lost. It hands out the store if the receipts of the returned sessions are
-    /// right. The journal has then grown by at least as many entries as there are receipts, and entries of the keeper
-    /// for workers that it ended. If no session is missing, all holds that [`close`](Locked::close) says.
+    /// right. The journal has then grown by at least as many entries as there are receipts, and entries of the keeper.
+    /// If no session is missing, all holds that [`close`](Locked::close) says.
     ///
     /// `ReceiptMismatch` is the only refusal. It is returned exactly if the sessions that are there may not close. What
     /// was handed in then comes back, with the sessions in the order of their workers' names. Takes no memory, and for

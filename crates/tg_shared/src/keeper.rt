@@ -1,4 +1,4 @@
-//! Who may take a shared store's entries, see all of its graph, and end a worker.
+//! Who may take a shared store's entries, see all of its graph, end a worker, and withdraw rights.
 ghost use Rattle.std.specs.Prelude.{◌≡◌, ◌≢◌, ◌+◌, ◌++◌, ◌<◌, ◌∷◌, ◌^◌, [], true, Err, IfErr, IfOk, OnErr, length, max, min};
 ghost use Rattle.tg_could.specs.Reached.{IsReachedPicture};
 ghost use Rattle.tg_store.specs.Store.{graph_of_store};
@@ -18,10 +18,11 @@ use tg_passes::{Pass, Roll};
 use tg_payload::Payload;
 use tg_store::ApplyFault;
 
-/// The owner of a keeper may take the entries of a shared store, see its whole graph, and end a worker. A shared store
-/// has one keeper. Only [`SharedStore::new`] makes it, with the sessions. So the maker of the shared store decides who
-/// has the keeper. A session can neither take the journal away nor end another session's worker. A keeper takes no
-/// memory. [`close`](crate::close) works without it, because the locked value counts the keeper's entries.
+/// The owner of a keeper may take the entries of a shared store, see its whole graph, end a worker, and withdraw rights
+/// from workers. A shared store has one keeper. Only [`SharedStore::new`] makes it, with the sessions. So the maker of
+/// the shared store decides who has the keeper. A session can neither take the journal away nor end another session's
+/// worker. A keeper takes no memory. [`close`](crate::close) works without it, because the locked value counts the
+/// keeper's entries.
 ///
 /// A keeper knows where its last part of the journal ended, and which entries it made. Only its own calls change this
 /// knowledge. Each of its calls of the store looks at all entries since the store was shared. So the keeper knows of
@@ -66,7 +67,7 @@ impl<L: Round> Keeper<L> {
         self.next.number()
     }
 
-    /// How many entries it made for workers that it ended. No session has a receipt of them.
+    /// How many entries it made for workers, in ends and withdrawals. No session has a receipt of them.
     pub fn entered(&self) -> u64
         ensures { result ≡ length self.now.made }
     {

@@ -1,5 +1,5 @@
 //! What receipts say of a history. A function here does nothing. Its `ensures` is the law.
-ghost use Rattle.std.specs.Prelude.{◌≡◌, ◌+◌, ℕ, List, Option, drop, false, length, take, true};
+ghost use Rattle.std.specs.Prelude.{◌≡◌, ◌+◌, ◌<◌, [], ℕ, List, Option, drop, false, length, take, true};
 ghost use Rattle.std.specs.List.{All, AllPairs, Contains};
 ghost use Rattle.tg_rights.specs.RightSet.{RightSet};
 ghost use Rattle.tg_model.specs.declared.command.Deed.{Deed};
@@ -18,6 +18,10 @@ ghost use Rattle.tg_shared.specs.Sessions.{AreSharedOut, AtSeen, HasEnded, HasGr
 ghost use Rattle.tg_store.specs.Held.{IsHeldOver};
 ghost use Rattle.tg_store.specs.Leaving.{HasLeft};
 ghost use Rattle.tg_store.specs.Store.{IsFaithful, StoreState, graph_of_store};
+ghost use Rattle.tg_store.specs.Withdrawing.{AreHoldersOfSome};
+ghost use Rattle.tg_shared.specs.Withdrawing.{HasWithdrawn, WithdrawsOnly};
+
+use tg_store::laws::withdrawn_rights_never_come_back;
 
 /// The entry of each receipt that matches a legal history was answered by the rules, on the graph after all entries
 /// before it. The entries of all earlier receipts are among these entries. So what a session reads comes after all that
@@ -64,7 +68,7 @@ pub fn a_whole_journal_is_held()
 /// entries were made since. Then each of these entries is in exactly one receipt, and the receipts of each session are
 /// all its entries, in their order. A session of such a store can't hand out a receipt. So
 /// [`Locked::close`](crate::Locked::close) and [`close_with`](crate::close_with) have all of this whenever the keeper
-/// ended no worker, whatever the sessions' holders did.
+/// made no entry, whatever the sessions' holders did.
 pub fn a_whole_round_is_shared_out()
     ensures { (start : SharedStart) (s : StoreState) (sessions : List SessionState) → StaysWhole start s →
         MayCloseWith start s sessions → length s.entries ≡ length start.entries + count_of sessions → AreSharedOut (since start s) sessions }
@@ -141,6 +145,26 @@ pub fn a_label_is_of_the_closed_journal()
 pub fn an_end_is_of_the_named_worker()
     ensures { (start : SharedStart) (old new : KeeperState) (worker count : ℕ) → HasEnded start worker old new count → EndsOnly start new.seen worker }
 {}
+
+/// The keeper's withdrawal ends nobody. The same vertices are subjects before and after. The graph after the entries
+/// that the keeper has then seen is the one before, without the withdrawn rights. The names that were returned are of
+/// exactly those who still hold some of the rights.
+pub fn a_withdrawal_ends_nobody()
+    ensures { (start : SharedStart) (old new : KeeperState) (target : ℕ) (rights : RightSet) (keep names : List ℕ) →
+        HasWithdrawn start target rights keep old new names → WithdrawsOnly start new.seen target rights keep names }
+{}
+
+/// Suppose that a withdrawal of the keeper returned nobody, and that its target was made. Then nobody who is reached
+/// holds one of the rights over the target, whatever entries follow. So it is also after the last entry of the journal
+/// of the closed store.
+pub fn withdrawn_rights_stay_away()
+    ensures { (start : SharedStart) (old new : KeeperState) (target : ℕ) (rights : RightSet) (keep : List ℕ) (all : List Signed) (s : StoreState) →
+        HasWithdrawn start target rights keep old new [] → target < (graph_seen start new.seen).made →
+        HasExactly start all s → IsFaithful s → BeginsWith all new.seen → AreHoldersOfSome (graph_of_store s) rights target [] }
+{
+    // This law says so of one graph.
+    withdrawn_rights_never_come_back();
+}
 
 /// What a collection of a session returns is the number of vertices of a store with exactly these entries. After a full
 /// one it is the number of vertices that can be reached in the graph after them.

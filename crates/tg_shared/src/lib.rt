@@ -36,10 +36,10 @@
 //! into another one ([`Session::take_over`]). A store that is shared whole hands out entries and receipts only at the
 //! close.
 //!
-//! **A client that hangs.** The keeper ends its worker by its name, if the store was shared so ([`Keeper::end`]). In
-//! the roll the entries of such an end are the keeper's. So the owner of the keeper knows at the close who made each
-//! entry ([`close_with`]). A store is also recovered if a session is lost ([`reclaim`]). Then the returned receipts are
-//! at most as many as the entries.
+//! **A client that hangs.** The keeper ends its worker by its name, if the store was shared so ([`Keeper::end`]). It
+//! withdraws rights from workers too ([`Keeper::withdraw`]). In the roll the entries of an end and of a withdrawal are
+//! the keeper's. So the owner of the keeper knows at the close who made each entry ([`close_with`]). A store is also
+//! recovered if a session is lost ([`reclaim`]). Then the returned receipts are at most as many as the entries.
 //!
 //! The book is that of a ledger ([`std::sync::ledger`]). After a successful close there are as many receipts as entries
 //! ('Why the count is known at the close' in docs/inside/ARCHITECTURE.md).
@@ -63,6 +63,7 @@ mod receipt;
 mod round;
 mod session;
 mod shared;
+mod withdrawing;
 
 pub use closing::{CloseFault, LockedRefused};
 pub use handing::OwnHand;

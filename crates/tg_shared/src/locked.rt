@@ -25,7 +25,7 @@ use tg_subjects::Subject;
 /// call of the store, with its contract. A call for a session makes a receipt of each entry.
 ///
 /// Contracts see a `LockedState`. It has the store, and how many sessions were made. It also has how many entries the
-/// keeper made for workers that it ended, and all entries since the start with who made each.
+/// keeper made for workers, and all entries since the start with who made each.
 #[derive(Drop)]
 pub struct Locked<L: Round, P: Payload> {
     pub(crate) store: Store<P>,
@@ -66,7 +66,7 @@ impl<L: Round, P: Payload> Locked<L, P> {
     /// legal history of its opening, and its heap represents the graph after this history. The store comes from the
     /// shared store. It has the same opening, limits and earlier entries, and since then exactly the entries that the
     /// roll has (`grown_by`). One session was made for each subject that the shared store had, and one for each subject
-    /// that was made since. If its start lets the keeper end nobody, no worker was ended.
+    /// that was made since. If its start lets the keeper end nobody, the keeper made no entry.
     pub fn store(&self) -> &Store<P>
         ensures same { result.now ≡ self.now.store }
         ensures held { HoldsWhenFree L.start self.now }
@@ -85,7 +85,7 @@ impl<L: Round, P: Payload> Locked<L, P> {
         self.sessions
     }
 
-    /// How many entries the keeper made for workers that it ended. No session has a receipt of them.
+    /// How many entries the keeper made for workers, in ends and withdrawals. No session has a receipt of them.
     pub fn entered(&self) -> u64
         ensures { result ≡ self.now.entered }
     {
@@ -381,8 +381,8 @@ fn place_held(journal: &Journal, upto: u64) -> u64
     upto.min(journal.len()).max(journal.start())
 }
 
-// The entries of a journal from a place on.
-fn entries_from(journal: &Journal, at: u64) -> &[Entry]
+/// The entries of a journal from a place on.
+pub(crate) fn entries_from(journal: &Journal, at: u64) -> &[Entry]
     requires { (journal.now.start ≤ at) × (at ≤ length journal.now.entries) }
     ensures { result.now ≡ drop at journal.now.entries }
 {

@@ -69,9 +69,9 @@ impl<L: Round, P: Payload> SharedStore<L, P> {
     /// memory.
     ///
     /// The round's start says whether the journal stays whole (`start_of_store`), or may be handed out in parts while
-    /// it is shared (`start_in_parts`). It also says whether the keeper may end workers (`start_with_ends`,
-    /// `start_in_parts_with_ends`). The keeper's first part of the journal begins where the store's journal begins, and
-    /// it has ended nobody.
+    /// it is shared (`start_in_parts`). It also says whether the keeper may end workers and withdraw their
+    /// rights (`start_with_ends`, `start_in_parts_with_ends`). The keeper's first part of the journal begins where the
+    /// store's journal begins, and it has made no entry.
     pub fn new(
         alloc: Global,
         blanks: Blanks,
@@ -120,9 +120,9 @@ impl<L: Round, P: Payload> SharedStore<L, P> {
     }
 
     /// Returns the locked value, as [`into_locked`](SharedStore::into_locked) does, for a caller that still has the
-    /// keeper. The entries that were made for ended workers are exactly the keeper's (`sees`). The store holds its
-    /// entries from the place at which the keeper's last part ended. The keeper has then seen all entries, and is
-    /// otherwise as it was.
+    /// keeper. The entries that the lock has counted as the keeper's are exactly those that it made (`sees`). The store
+    /// holds its entries from the place at which the keeper's last part ended. The keeper has then seen all entries,
+    /// and is otherwise as it was.
     pub fn into_locked_with(self, keeper: &mut Keeper<L>) -> Locked<L, P>
         ensures held { HoldsWhenFree L.start result }
         ensures entered { result.entered ≡ length keeper.old.made }
@@ -185,18 +185,18 @@ pub fn close<L: Round, P: Payload>(
 }
 
 /// Ends a round as [`close`] does, for a caller that still has the keeper. It says exactly which entries each session
-/// and the keeper made, also if workers were ended. This call is [`SharedStore::into_locked_with`] and
-/// [`Locked::close`] in a row.
+/// and the keeper made, also if workers were ended or rights withdrawn. This call is [`SharedStore::into_locked_with`]
+/// and [`Locked::close`] in a row.
 ///
-/// The journal has grown by as many entries as the keeper made for workers that it ended, and as there are receipts. Of
+/// The journal has grown by as many entries as the keeper made for workers, and as there are receipts. Of
 /// the entries since the store was shared the keeper made exactly its own, and each session exactly its own. All begin
 /// with the entries that each has seen (`signed`).
 ///
-/// Suppose that the worker of a session wasn't ended by the keeper, and that the session handed out no receipt and took
-/// over nobody. Then it has receipts of all entries of its worker (`single`). Suppose that a store was shared whole,
-/// and that the keeper ended nobody. Then each entry made since is in exactly one receipt, and the receipts of each
-/// session are all its entries (`whole`). The store holds its entries from the place at which the keeper's last part
-/// ended. The keeper has then seen all entries, and is otherwise as it was. Refusals are those of [`close`].
+/// Suppose that the keeper made no entry for the worker of a session, and that the session handed out no receipt and
+/// took over nobody. Then it has receipts of all entries of its worker (`single`). Suppose that a store was shared
+/// whole, and that the keeper made no entry. Then each entry made since is in exactly one receipt, and the receipts of
+/// each session are all its entries (`whole`). The store holds its entries from the place at which the keeper's last
+/// part ended. The keeper has then seen all entries, and is otherwise as it was. Refusals are those of [`close`].
 pub fn close_with<L: Round, P: Payload>(
     store: SharedStore<L, P>,
     sessions: Vec<Session<L>>,
@@ -221,9 +221,9 @@ pub fn close_with<L: Round, P: Payload>(
 
 /// Takes a store back whose sessions may be lost, if the receipts of the returned sessions are right. Each receipt
 /// matches the journal, and no two sessions are of one worker. The journal has then grown by at least as many entries
-/// as the returned sessions have receipts (`back`). It has grown by exactly as many if no session is missing and no
-/// worker was ended. The call is [`SharedStore::into_locked`] and [`Locked::reclaim`] in a row. The store comes from
-/// the shared store, with all its entries.
+/// as the returned sessions have receipts (`back`). It has grown by exactly as many if no session is missing and the
+/// keeper made no entry. The call is [`SharedStore::into_locked`] and [`Locked::reclaim`] in a row. The store comes
+/// from the shared store, with all its entries.
 ///
 /// `ReceiptMismatch` is the only refusal. It is returned only if the sessions may not close with some journal that may
 /// have been in the lock, as [`close`] does. Store and sessions then come back, and the sessions may be in another
