@@ -183,6 +183,7 @@ impl<P: Payload> Cells<P> {
     /// is noted if it has to be remembered. The answer is the place of the object. Growth comes first, and that of the
     /// spaces last. If it is refused, there may be room for one more payload and one more note. Nothing else is changed
     /// then.
+    #[inline(always)]
     pub(crate) fn put_vertex(
         &mut self,
         nursery: u64,
@@ -209,6 +210,7 @@ impl<P: Payload> Cells<P> {
     }
 
     /// Makes room for one payload, then for a note, and then for so many cells of a nursery.
+    #[inline(always)]
     pub(crate) fn make_vertex_room(
         &mut self,
         nursery: u64,
@@ -225,6 +227,7 @@ impl<P: Payload> Cells<P> {
     }
 
     /// Makes room for a note, if there is one, and then for so many cells of a nursery.
+    #[inline(always)]
     pub(crate) fn make_room(
         &mut self,
         nursery: u64,
@@ -276,6 +279,7 @@ impl<P: Payload> Cells<P> {
 }
 
 // Makes room for the note of a cell, if there is one.
+#[inline(always)]
 fn reserve_note(remembered: &mut Remembered, note: Option<Place>) -> Result<(), AllocError>
     ensures places { remembered.new.places ≡ remembered.old.places }
     ensures room { OnOk result (IfSome note (λ _. 0 < remembered.new.spare)) }
@@ -288,6 +292,7 @@ fn reserve_note(remembered: &mut Remembered, note: Option<Place>) -> Result<(), 
 }
 
 /// Remembers a cell, if there is one. There is room for it.
+#[inline(always)]
 pub(crate) fn remember(remembered: &mut Remembered, note: Option<Place>)
     requires { IfSome note (λ _. 0 < remembered.old.spare) }
     ensures noted { remembered.new.places ≡ with_note remembered.old.places note }

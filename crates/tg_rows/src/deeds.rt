@@ -219,6 +219,7 @@ impl<P: Payload> Cells<P> {
     /// be remembered. If the row is long, it has an index afterwards. The answer is the place of the object. Growth
     /// comes first, and that of the spaces last. If it is refused, there may be room for one more payload and one more
     /// note. Nothing else is changed then.
+    #[inline(always)]
     pub fn new_vertex(
         &mut self,
         rows: &mut LongRows,

@@ -83,6 +83,7 @@ impl IndexedRow {
 
     // Marks the cell of the row that is noted, if there is one and it is known to be in Old. It is the one to which a
     // new reference goes, or from which a new chunk is linked.
+    #[inline(always)]
     fn mark(&mut self, note: Option<Place>)
         requires noted { IsNotedIn self.old note }
         requires short { self.old.names.len + CHUNK_REFERENCES < 2 ^ 64 }
