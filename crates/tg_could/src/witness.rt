@@ -3,7 +3,10 @@ ghost use Rattle.std.specs.Prelude.{IfOk, IsTrue};
 ghost use Rattle.tg_could.specs.Scenes.{OnGraphs, WitnessOf};
 
 pub(crate) mod chains;
+pub(crate) mod claims;
+pub(crate) mod few;
 pub(crate) mod plan;
+pub(crate) mod shorter;
 pub(crate) mod trial;
 
 use crate::question::{Question, Scene, Witness};

@@ -1,6 +1,8 @@
-// closure.rs: random graphs of 2 to 5 vertices with silent sets, and the whole closure under take and grant, written apart.
+// closure.rs: random graphs of 2 to 6 vertices with silent sets, and the whole closure under take and grant, written apart.
 //   closure SEED GRAPHS            writes questions for the program beside it
-//   closure SEED GRAPHS ANSWERS    holds its answers against the closure, and replays each witness by the rules
+//   closure SEED GRAPHS ANSWERS    holds its answers against the closure, and replays each witness by the rules; no turn of a
+//                                  witness can be left out alone, and if up to three takes and grants of one right each do, it has
+//                                  no more turns (two are tried on each graph, and three on each 50th)
 use std::collections::BTreeSet;
 use std::io::{BufRead, Write};
 
@@ -38,7 +40,7 @@ struct Question {
 }
 
 fn drawn(draw: &mut Draw, apart: usize) -> Graph {
-    let made = 2 + draw.below(4) as usize;
+    let made = 2 + draw.below(5) as usize;
     let limit = made + if draw.below(4) == 0 { draw.below(4) as usize } else { 1000 };
     let density = [15, 25, 40, 60][draw.below(4) as usize];
     let mut graph = Graph { apart, made, limit, subjects: BTreeSet::new(), silent: BTreeSet::new(), rows: [vec![0; made], vec![0; made], vec![0; made]] };
@@ -213,6 +215,57 @@ impl Graph {
     }
 }
 
+// The turns without the one at a place, with the names that are made then. None if another turn names what it made.
+fn without(apart: usize, made: usize, turns: &[String], at: usize) -> Option<Vec<String>> {
+    let makes = |line: &String| line.contains(" create ") || line.contains(" spawn ");
+    let gone = makes(&turns[at]).then(|| written(apart, made, made + turns[..at].iter().filter(|line| makes(line)).count()));
+    let mut rest = Vec::new();
+    for line in turns[..at].iter().chain(&turns[at + 1..]) {
+        let mut words = Vec::new();
+        for word in line.split(' ') {
+            match (word.parse::<usize>(), gone) {
+                (Ok(name), Some(gone)) if name == gone => return None,
+                (Ok(name), Some(gone)) if name > gone => words.push((name - 1).to_string()),
+                _ => words.push(word.to_string()),
+            }
+        }
+        rest.push(words.join(" "));
+    }
+    Some(rest)
+}
+
+// Whether these turns are served and lead to it.
+fn lead(graph: &Graph, turns: &[String], q: &Question) -> bool {
+    let mut behind = graph.clone();
+    turns.iter().all(|line| behind.turn(graph.made, line)) && behind.rows[0].len() > q.x.max(q.y) && behind.holds(q.x, q.letter, q.y)
+}
+
+// Whether so many takes and grants of one right each lead to it.
+fn leads_within(graph: &Graph, q: &Question, most: usize) -> bool {
+    if graph.holds(q.x, q.letter, q.y) {
+        return true;
+    }
+    let vertices = 0..graph.rows[0].len();
+    for (x, via) in vertices.clone().filter(|x| graph.acts(*x)).flat_map(|x| vertices.clone().map(move |via| (x, via))) {
+        for (needed, giver, taker) in [(0, via, x), (1, x, via)] {
+            if most == 0 || x == via || !graph.holds(x, needed, via) || most == 1 && taker != q.x {
+                continue;
+            }
+            for (z, c) in vertices.clone().filter(|z| *z != x && *z != via).flat_map(|z| [(z, 0), (z, 1), (z, 2)]) {
+                if most == 1 && (c != q.letter || z != q.y) || !graph.holds(giver, c, z) || graph.holds(taker, c, z) {
+                    continue;
+                }
+                let mut behind = graph.clone();
+                behind.rows[c][taker] |= 1 << z;
+                if leads_within(&behind, q, most - 1) {
+                    return true;
+                }
+            }
+        }
+    }
+    false
+}
+
 // Whether x could hold it, by the closure; a name that isn't made yet is the first object of one who acts.
 fn could(graph: &Graph, closed: &Graph, first_objects: &[usize], q: &Question) -> bool {
     if q.x == q.y {
@@ -245,9 +298,9 @@ fn main() {
         return;
     }
     let mut lines = std::io::BufReader::new(std::fs::File::open(&args[3]).unwrap()).lines().map(|line| line.unwrap());
-    let (mut never, mut yes, mut wanting, mut longest, mut most) = (0, 0, 0, 0, 0);
-    for at in 0..graphs {
-        let graph = drawn(&mut draw, APART[at % 2]);
+    let (mut never, mut yes, mut wanting, mut all, mut longest, mut most) = (0, 0, 0, 0, 0, 0);
+    for at_graph in 0..graphs {
+        let graph = drawn(&mut draw, APART[at_graph % 2]);
         let asked = questions(&mut draw, &graph);
         let (closed, first_objects) = graph.closed();
         for q in &asked {
@@ -256,7 +309,7 @@ fn main() {
             let here = || {
                 let mut all = Vec::new();
                 write(&mut all, &graph, std::slice::from_ref(q));
-                format!("graph {at}: answered {answer}, closure says {want}:\n{}", String::from_utf8(all).unwrap())
+                format!("graph {at_graph}: answered {answer}, closure says {want}:\n{}", String::from_utf8(all).unwrap())
             };
             if answer == "never" {
                 assert!(!want, "{}", here());
@@ -268,18 +321,29 @@ fn main() {
             let (names, turns): (usize, usize) = (words[1].parse().unwrap(), words[2].parse().unwrap());
             let mut behind = graph.clone();
             behind.limit += names;
-            for _ in 0..turns {
-                let line = lines.next().unwrap();
-                assert!(behind.turn(graph.made, &line), "not served: {line}\n{}", here());
+            let witness: Vec<String> = (0..turns).map(|_| lines.next().unwrap()).collect();
+            for line in &witness {
+                assert!(behind.turn(graph.made, line), "not served: {line}\n{}", here());
             }
             assert!(behind.holds(q.x, q.letter, q.y), "the witness leads elsewhere\n{}", here());
             assert!(names == 0 || graph.limit < graph.made + 65, "{}", here());
+            let mut roomy = graph.clone();
+            roomy.limit += names;
+            for at in 0..turns {
+                let rest = without(graph.apart, graph.made, &witness, at);
+                assert!(!rest.is_some_and(|rest| lead(&roomy, &rest, q)), "turn {at} isn't needed: {witness:?}\n{}", here());
+            }
+            let tried = if at_graph % 50 == 0 { 3 } else { 2 };
+            let fewer = turns.saturating_sub(1).min(tried);
+            let has_fewer = q.x.max(q.y) < graph.made && leads_within(&graph, q, fewer);
+            assert!(turns == 0 || !has_fewer, "{fewer} takes and grants do: {witness:?}\n{}", here());
             yes += 1;
+            all += turns;
             wanting += usize::from(names > 0);
             longest = longest.max(turns);
             most = most.max(behind.made - graph.made);
         }
     }
     assert!(lines.next().is_none(), "answers are left");
-    println!("{graphs} graphs: {never} never, {yes} could, {wanting} of them with names wanting; at most {longest} turns, {most} vertices made");
+    println!("{graphs} graphs: {never} never, {yes} could, {wanting} of them with names wanting; {all} turns, at most {longest} of them, {most} vertices made");
 }

@@ -3,12 +3,19 @@
 use crate::question::Question;
 use crate::search::growth::{note, push};
 use crate::search::{Findings, Hop};
+use crate::separation::conditions::all_differ;
 use crate::separation::{comes_later, has, single};
 use crate::witness::chains::Chains;
+use crate::witness::claims::Claim;
+use crate::witness::few::{Handing, MOST_NEAR, Near, grant_of, take_of};
+use crate::witness::shorter::{Pair, Start, Tried};
 use crate::witness::trial::Trial;
 use std::alloc::{AllocError, Global};
-use tg_model::{Command, Deed, Law, MAX_WORKERS, Numbers, Picture};
+use tg_model::{Command, Deed, Edge, Law, MAX_WORKERS, Numbers, Picture};
 use tg_rights::{Label, Right, Rights};
+
+// Turns are tried one by one without each of them if they are at most so many.
+const MOST_TRIED: usize = 256;
 
 // The label of take, grant and a right, which may be one of these.
 fn both_and(right: Right) -> Label {
@@ -20,6 +27,7 @@ fn both_and(right: Right) -> Label {
 /// and both with the right.
 #[derive(Clone, Copy, Drop)]
 struct Goal {
+    right: Right,
     asked: Label,
     over: u64,
     source: u64,
@@ -34,6 +42,7 @@ impl Goal {
     fn of(question: Question) -> Goal {
         let Question { right, y, .. } = question;
         Goal {
+            right,
             asked: single(right),
             over: y,
             source: y,
@@ -110,18 +119,30 @@ impl<'a> Planner<'a> {
     fn lead_to(self, alloc: Global, x: u64, is_sparing: bool) -> Planned {
         let mut plan = self;
         let path = plan.path(alloc, x);
-        if is_sparing {
-            plan.lead_sparingly(path.as_slice(), x);
-        } else {
-            plan.lead(path.as_slice(), x);
+        plan.lead_by_few(alloc, path.as_slice(), x);
+        let is_least = !plan.turns.is_empty();
+        if !is_least {
+            plan.lead_along(path.as_slice(), x, is_sparing);
+        }
+        plan.trial.forget_added();
+        if !is_least {
+            plan.shorten(alloc, x);
         }
         plan.planned()
+    }
+
+    // Leads the right to x along a path, with as few names as possible or not.
+    fn lead_along(&mut self, path: &[Hop], x: u64, is_sparing: bool) {
+        if is_sparing {
+            self.lead_sparingly(path, x);
+        } else {
+            self.lead(path, x);
+        }
     }
 
     // What was planned.
     fn planned(self) -> Planned {
         let mut plan = self;
-        plan.trial.forget_added();
         let taken = plan.taken;
         note(&mut plan.trial.rows.grown, taken);
         Planned {
@@ -129,6 +150,154 @@ impl<'a> Planner<'a> {
             made: plan.trial.made,
             rows: plan.trial.rows,
         }
+    }
+
+    // Leads the right to x by up to three takes and grants, if there are any that do so. One turn is looked for among
+    // all edges, and more of them among a few vertices.
+    fn lead_by_few(&mut self, alloc: Global, path: &[Hop], x: u64) {
+        if path.is_empty() {
+            return;
+        }
+        for edge in self.picture.edges() {
+            if let Some((worker, command)) = self.one_by(edge, x) {
+                return self.turn(worker, Deed::Plain(command));
+            }
+        }
+        let names = self.near(alloc, path, x);
+        let mut near = Near::of(
+            alloc,
+            self.picture,
+            self.found,
+            &self.trial.rows,
+            names,
+            &mut self.taken,
+        );
+        self.lead_near(&mut near, x);
+    }
+
+    // The turn that leads the right to x by an edge: x takes by it, or its holder grants by it.
+    fn one_by(&self, edge: &Edge, x: u64) -> Option<Handing> {
+        let Goal {
+            right,
+            over,
+            asked,
+            ..
+        } = self.goal;
+        let is_take = edge.from == x && has(edge.label, Right::T);
+        let is_grant = edge.to == x && has(edge.label, Right::G);
+        if !is_take && !is_grant || !self.found.acts(edge.from) {
+            return None;
+        }
+        let other = if is_take { edge.to } else { edge.from };
+        if !all_differ(x, other, over) || !self.has_all(other, over, asked) {
+            return None;
+        }
+        Some(if is_take {
+            take_of(x, other, right, over)
+        } else {
+            grant_of(other, x, right, over)
+        })
+    }
+
+    // The vertices among which turns are looked for. If the picture shows few, these are all of them, and else those of
+    // the path and those that are asked about.
+    fn near(&mut self, alloc: Global, path: &[Hop], x: u64) -> Vec<u64> {
+        let mut names = Vec::new(alloc);
+        let shown = &self.found.sides.names;
+        if shown.len() <= MOST_NEAR {
+            for number in 0..shown.len() as u64 {
+                push(&mut names, shown.name(number), &mut self.taken);
+            }
+            return names;
+        }
+        self.put_near(&mut names, x);
+        self.put_near(&mut names, self.goal.over);
+        for hop in path {
+            self.put_near(&mut names, hop.vertex);
+        }
+        names
+    }
+
+    // Adds a name, unless it is there or too many are.
+    fn put_near(&mut self, names: &mut Vec<u64>, name: u64) {
+        if names.len() < MOST_NEAR && !names.contains(&name) {
+            push(names, name, &mut self.taken);
+        }
+    }
+
+    // Takes two or three turns among a few vertices that lead the right to x, if there are any.
+    fn lead_near(&mut self, near: &mut Near, x: u64) {
+        let Some(fact) = near.fact(x, self.goal.right, self.goal.over) else {
+            return;
+        };
+        if let Some(turns) = near.two(fact) {
+            return self.hand(&turns);
+        }
+        if let Some(turns) = near.three(fact) {
+            self.hand(&turns);
+        }
+    }
+
+    // Takes these turns.
+    fn hand(&mut self, turns: &[Handing]) {
+        for (worker, command) in turns.iter() {
+            self.turn(*worker, Deed::Plain(*command));
+        }
+    }
+
+    // Leaves out the turns that aren't needed, unless they are too many to be tried.
+    fn shorten(&mut self, alloc: Global, x: u64) {
+        if self.turns.len() > MOST_TRIED || self.taken.is_err() {
+            return;
+        }
+        let mut tried = Tried::of(alloc, self.start(x), self.turns.as_slice());
+        note(&mut self.taken, tried.grown);
+        for pair in tried.pairs.iter_mut() {
+            pair.first = self.first_rights(pair);
+        }
+        if self.taken.is_ok() && tried.leave_out() {
+            let (turns, made) = tried.rest(alloc, self.turns.as_slice(), &mut self.taken);
+            self.turns = turns;
+            self.trial.made = made;
+        }
+    }
+
+    // Where the turns begin, and what they are to lead to.
+    fn start(&self, x: u64) -> Start {
+        let Goal { asked, over, .. } = self.goal;
+        let goal = Claim {
+            from: x,
+            to: over,
+            rights: asked.rights(),
+        };
+        Start {
+            goal,
+            made: self.picture.made(),
+            free: x.max(over).saturating_add(1),
+            subjects: self.picture.subjects().len() as u64,
+        }
+    }
+
+    // Those of the rights that turns need of a pair that it has on the picture.
+    fn first_rights(&self, pair: &Pair) -> Rights {
+        if pair.from == pair.to && self.found.acts(pair.from) {
+            return pair.needed;
+        }
+        let mut held = Rights::empty();
+        for right in Right::all() {
+            let right = Rights::of(right);
+            if pair.needed.contains(right) && self.has_first(pair, right) {
+                held = held.union(right);
+            }
+        }
+        held
+    }
+
+    // Whether a pair has a right on the picture. Who comes later is on no edge there.
+    fn has_first(&self, pair: &Pair, right: Rights) -> bool {
+        let made = self.picture.made();
+        let edges = self.picture.edges();
+        pair.from < made && pair.to < made && self.trial.has_all(edges, pair.from, pair.to, right)
     }
 
     // Takes a turn, whatever its outcome is.
