@@ -19,6 +19,10 @@ LISTING = b"".join([
     b"0 list = ok", *(b" %d:r" % name for name in range(1, LISTED + 1)), b"\n",
     b"entries %d\n" % (LISTED + 1),
 ])
+KEPT = (
+    b"kovshenul kept 1 @c4b942f6\nopening 2 1000000 @72a0c024\nworker c0 #044730d7\nworker c0 #dd214e14\n"
+    b"edge 0 1 rw #756659ca\n0 create r c0 = ok 2 @4f5fd2d9\n0 write 1 7 = ok @f453dae2\n0 read 1 = ok 7 #cfa24b32\n"
+)
 OPTIONS = ["--workers", "2", "--vertices", "50", "--stock", "c9"]
 
 
@@ -38,6 +42,9 @@ RUNS = [
     Runs("tgaudit", ["--snapshot"], PART),
     Runs("tgaudit", ["--after", "/dev/null"], SUMMED),
     Runs("tgaudit", [], PART.replace(b"vertex 7", b"vertex 9")),
+    Runs("tgaudit", ["/dev/stdin"], KEPT),
+    Runs("tgaudit", ["/dev/stdin"], KEPT.replace(b"ok 2", b"ok 3")),
+    Runs("tgaudit", ["--front", "/dev/stdin"], KEPT[:-4]),
     Runs("tgaudit", ["--help"], b""),
     Runs("tgaudit", ["--unknown"], b""),
     Runs("tgcould", [*OPTIONS, "--ask", "1 r 3", "--ask", "* r 2", "--never", "new w 2"], SCRIPT),
@@ -64,7 +71,7 @@ def is_right(runs, whole, ran):
     status, output, errors = ran
     if ran == whole:
         return True
-    told = re.fullmatch(rf"(tgcould: (line \d+: '|--never: ).*\n)*{runs.program}: (line \d+: )?out of memory\n".encode(), errors)
+    told = re.fullmatch(rf"(tgcould: (line \d+: '|--never: ).*\n)*{runs.program}: (/dev/stdin: )?(line \d+(, at byte \d+)?: )?out of memory\n".encode(), errors)
     return status == 1 and told is not None and whole[1].startswith(output)
 
 

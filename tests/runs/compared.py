@@ -2,6 +2,7 @@
 import os
 import re
 import select
+import shutil
 import subprocess
 import tempfile
 import time
@@ -60,13 +61,16 @@ def cut(row: Row, size: int) -> Wanted:
 
 
 def run(row: Row, program: Path, given: bytes, words: Sequence[str] = ()) -> Ran:
-    """Runs the program on the row, with these words after its own, in an empty folder."""
+    """Runs the program on the row, with these words after its own, in a folder that has the files of the row alone."""
     command = [str(program), *row.words, *words]
     if (row.folder / "memory").exists():
         command = [*LIMITED, str(int(row.named("memory", "")) + program.stat().st_size // 1024), *command]
     with tempfile.TemporaryDirectory(prefix="row-") as room, ExitStack() as held:
         empty = Path(room) / "empty"
-        empty.mkdir()
+        if (row.folder / "files").is_dir():
+            shutil.copytree(row.folder / "files", empty)
+        else:
+            empty.mkdir()
         (Path(room) / "stdin").write_bytes(given)
         said = {"stdout": Path(room) / "stdout", "stderr": Path(room) / "stderr"}
         source = held.enter_context(opened(empty / row.named("stdin.from", f"{room}/stdin"), os.O_RDONLY))

@@ -152,6 +152,7 @@ NAMED = {
     ("tg_saved/src/text.rt", "read_lines", "u64::MAX"): "a line of the text each",
     ("tg_entries/src/stream.rt", "audit_lines", "u64::MAX"): "a line of the reader each",
     ("tg_entries/src/stream.rt", "skip_line", "u64::MAX"): "a piece of the line each",
+    ("tgaudit/src/kept.rt", "audit_rest", "while let Some(text)=reader.next()"): "a line of the file each",
     ("tg_plain/src/script.rt", "add_lines", "while let Some(line)=reading.next(source,&mut sink)?"): "a line of the reader each",
     ("tg_evac/src/copies.rt", "scan", "while next<claimer.len()"): "a cell that was won each",
     ("tg_evac/src/walk.rt", "each", "loop"): "a root each",

@@ -17,3 +17,4 @@ pub mod SumLaws
 pub mod TableLaws
 pub mod Writing
 pub mod Ready
+pub mod Reporting

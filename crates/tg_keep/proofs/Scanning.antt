@@ -45,11 +45,11 @@ skips_more sum bytes count last left text next after skips reads =
       few = omega (arith, skips.few, shorter);
     }
 
-no_more_texts : (last left : List ℕ) → whole_lines last left ≡ [] → texts_after last left ≡ []
+pub no_more_texts : (last left : List ℕ) → whole_lines last left ≡ [] → texts_after last left ≡ []
 unfolding texts_after
 no_more_texts last left none = ap (map text_in) none
 
-no_more_bytes : (last left : List ℕ) → whole_lines last left ≡ [] → length_after last left ≡ 0
+pub no_more_bytes : (last left : List ℕ) → whole_lines last left ≡ [] → length_after last left ≡ 0
 unfolding length_after
 no_more_bytes last left none = let f : List ℕ → ℕ = λ line. length line + 1 in ap (sum_by f) none
 

@@ -5,6 +5,7 @@ pub mod Fronts
 pub mod Lines
 pub mod Opened
 pub mod Reads
+pub mod Reports
 pub mod Runs
 pub mod Sums
 pub mod Zeros

@@ -29,6 +29,7 @@
 //! | [`LineFile::begin`] | makes a new file of an empty one, under a name of its own |
 //! | [`LineFile::open`] | opens a file that a crash may have left, drops a torn end, and refuses damage |
 //! | [`LineReader`] | reads the lines of the bytes that `open` returns |
+//! | [`report_of`], [`whole_front`] | report on the bytes of a file that a program only reads |
 //! | [`Batch::add`] | adds a line to a batch |
 //! | [`LineFile::put`], [`LineFile::put_all`] | put batches into the file. At `Ok` each crash leaves their lines |
 //! | [`LineFile::close`] | ends a run, so that the next opening reports it as closed |
@@ -47,6 +48,7 @@ mod line;
 mod mend;
 mod open;
 mod reader;
+mod report;
 mod run;
 mod scan;
 mod sum;
@@ -60,4 +62,5 @@ pub use laws::{a_crash_leaves_a_front, a_torn_batch_is_no_damage, what_is_writte
 pub use line::write_line;
 pub use open::OpenedFile;
 pub use reader::LineReader;
+pub use report::{FileReport, report_of, whole_front};
 pub use sum::{LineSum, sum_after};

@@ -3,10 +3,18 @@
 //! It reads the text from standard input, line by line. If all entries are a legal history of the opening, it prints
 //! how many there are. Else it prints the first line at fault. `tg_entries` reads the text, replays it and sums it.
 //! This crate has the command line and the answers.
+//!
+//! With the names of kept files it reads these, each by itself. `tg_keep` says what the lines of a kept file are.
+//! `kept` audits the bytes of a kept file, and has the theorem of this crate. `files` reads a file by its name, and
+//! prints what was found.
 #![tactic(auto)]
 
+mod files;
+mod kept;
+mod lines;
 mod words;
 
+use files::{audit_file, print_front};
 use std::env;
 use std::fs::File;
 use std::io::{self, BufReader, ErrorKind, Write};
@@ -14,7 +22,9 @@ use std::process::ExitCode;
 use tg_entries::{
     LineFault, TextFault, audit_after, audit_text, audit_to_head, part_head_bytes, sum_of,
 };
-use words::{HELP, MORE, OF_A_LINE, OF_A_SUM, OF_AN_ENTRY, OF_THE_END, OF_THE_FIRST_LINE, VERSION};
+use words::{
+    HELP, MORE, OF_A_LINE, OF_A_SUM, OF_AN_ENTRY, OF_THE_END, OF_THE_FIRST_LINE, USAGE, VERSION,
+};
 
 // How many bytes are read at once.
 const BLOCK: usize = 65536;
@@ -43,7 +53,7 @@ fn advice_on(fault: &TextFault) -> Option<&'static str> {
 }
 
 // What a whole line at fault has to be, if the fault doesn't say so.
-fn advice_on_line(why: &LineFault) -> Option<&'static str> {
+pub(crate) fn advice_on_line(why: &LineFault) -> Option<&'static str> {
     match why {
         LineFault::OutOfMemory | LineFault::BadSnapshot { .. } => None,
         LineFault::OtherVersion => Some(OF_THE_FIRST_LINE),
@@ -61,6 +71,10 @@ enum Task {
     Snapshot,
     // To say how many entries the part has that comes after the one in this file.
     After(String),
+    // To audit the kept files that the words name.
+    Files,
+    // To print the lines of this kept file up to a damage.
+    Front(String),
     // None: the words were answered, with this exit status.
     Answered(u8),
 }
@@ -71,6 +85,8 @@ fn obey(rt: &HostRuntime) -> Result<u8, TextFault> {
         Task::Count => audit(rt),
         Task::Snapshot => print_head(rt),
         Task::After(path) => audit_after_file(rt, path.as_str()),
+        Task::Files => Ok(audit_files(rt)?),
+        Task::Front(path) => Ok(print_front(rt, path.as_str())?),
         Task::Answered(status) => Ok(status),
     }
 }
@@ -92,9 +108,14 @@ fn read_words(rt: &HostRuntime) -> io::Result<Task> {
         "--snapshot" => Task::Snapshot,
         "--after" => match words.next() {
             Some(path) => Task::After(path),
-            None => return Ok(Task::Answered(no_file(rt)?)),
+            None => return Ok(Task::Answered(no_file(rt, "after")?)),
         },
-        word => return Ok(Task::Answered(answer(rt, word)?)),
+        "--front" => match words.next() {
+            Some(path) => Task::Front(path),
+            None => return Ok(Task::Answered(no_file(rt, "front")?)),
+        },
+        word if word.starts_with('-') => return Ok(Task::Answered(answer(rt, word)?)),
+        _ => return read_names(rt, words),
     };
     match words.next() {
         Some(word) => Ok(Task::Answered(answer(rt, word.as_str())?)),
@@ -102,11 +123,27 @@ fn read_words(rt: &HostRuntime) -> io::Result<Task> {
     }
 }
 
-// Prints that the file of the part before is missing. The exit status.
-fn no_file(rt: &HostRuntime) -> io::Result<u8> {
+// What the words after a file's name ask for. Only names of files may come there.
+fn read_names(rt: &HostRuntime, words: env::Args) -> io::Result<Task> {
+    for word in words {
+        if word.starts_with('-') {
+            return Ok(Task::Answered(unexpected(rt, word.as_str())?));
+        }
+    }
+    Ok(Task::Files)
+}
+
+// Prints that the option lacks the name of its file. The exit status.
+fn no_file(rt: &HostRuntime, option: &str) -> io::Result<u8> {
     eprintln!(rt;
-        "error: a value is required for '--after <FILE>' but none was supplied\n\n{MORE}"
+        "error: a value is required for '--{option} <FILE>' but none was supplied\n\n{MORE}"
     )?;
+    Ok(2)
+}
+
+// Prints that the word isn't expected at its place. The exit status.
+fn unexpected(rt: &HostRuntime, word: &str) -> io::Result<u8> {
+    eprintln!(rt; "error: unexpected argument '{word}' found\n\n{USAGE}\n\n{MORE}")?;
     Ok(2)
 }
 
@@ -115,12 +152,7 @@ fn answer(rt: &HostRuntime, word: &str) -> io::Result<u8> {
     match word {
         "--help" | "-h" => print!(rt; "{HELP}")?,
         "--version" | "-V" => println!(rt; "tgaudit {VERSION}")?,
-        _ => {
-            eprintln!(rt;
-                "error: unexpected argument '{word}' found\n\nUsage: tgaudit [OPTIONS] <TEXT\n\n{MORE}"
-            )?;
-            return Ok(2);
-        }
+        _ => return unexpected(rt, word),
     }
     Ok(0)
 }
@@ -149,4 +181,15 @@ fn print_head(rt: &HostRuntime) -> Result<u8, TextFault> {
     let text = part_head_bytes(rt.alloc(), &head).map_err(io::Error::from)?;
     rt.stdout().write_all(text.as_slice())?;
     Ok(0)
+}
+
+// Audits the kept files that the words name, one after the other. The exit status is the greatest of theirs.
+fn audit_files(rt: &HostRuntime) -> io::Result<u8> {
+    let mut words = env::args(rt)?;
+    let _ = words.next();
+    let mut status = 0;
+    for path in words {
+        status = audit_file(rt, path.as_str())?.max(status);
+    }
+    Ok(status)
 }

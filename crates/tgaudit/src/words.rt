@@ -23,11 +23,22 @@ is right if tgaudit printed the same one for the part before.
 The memory of tgaudit grows with what the subjects reach, with the edges of the opening and with the lines of the
 snapshot. It does not grow with the entries.
 
+With names of files tgaudit reads kept files in the place of standard input. A kept file has the lines of one history, as
+a store puts them there while it runs. Each line has a checksum, which also covers the checksum of the line before. Each
+FILE is audited by itself, and is only read. If all is well, tgaudit writes how many entries and batches FILE has, its last
+line, and whether the last run was closed. A batch is what one write and one sync put into FILE. If a crash cut the last
+lines off, tgaudit reports them and leaves them out. That is no fault. Otherwise standard error names the line at fault and
+the byte at which it begins, counted from 0. tgaudit takes memory for all of FILE.
+
 Usage: tgaudit [OPTIONS]
+       tgaudit FILE..
+       tgaudit --front FILE
 
 Options:
       --snapshot      Prints the head of the next part in the place of the number of entries [default: the number]
       --after <FILE>  Checks too that the head of the part has the SHA-256 of FILE [default: the sum is not compared]
+      --front <FILE>  Writes the whole lines of the kept file FILE up to a damage, or up to an end that was cut off, as
+                      they are in FILE. No line is audited [default: FILE is audited]
   -h, --help          Print help
   -V, --version       Print version
 
@@ -53,6 +64,16 @@ The form of the head of a part:
   sha256 SUM                  the SHA-256 of all bytes of the part before, as 64 digits in lower case. This line may be
                               left out
 
+The form of a kept file:
+  kovshenul kept 1 @c4b942f6  the first line
+  TEXT @SUM                   for each other line of the history's text: the first line of a batch
+  TEXT #SUM                   another line of a batch
+  entries N @SUM              a mark: how many entries come before it. A run that is closed puts it twice, and ends the file
+                              after it
+
+  SUM is the CRC-32 of gzip, as eight digits, of the digits of the line before and TEXT. For the first line the digits
+  before are 00000000. After the lines of a run that wasn't closed come zeros.
+
 Faults:
   line L: bad line            it is none of these, or may not stand there; or the number of entries is wrong
   line L: vertex N needs ..   a line of a snapshot isn't as asked. Vertices, subjects and edges are counted from 0
@@ -60,10 +81,15 @@ Faults:
                               counts the entries before the snapshot too
   line L: the end is cut off  the text ends within line L, or in front of it and not after a line 'entries N'
   the head has ..             with --after: all entries are legal, and the head has no sum or not that of FILE
+  line L, at byte B, is ..    the line of a kept file isn't whole, and a later batch is there: bytes were altered or lost
+  line L, at byte B: ..       the line of a kept file is whole, and is a bad line or has a bad entry
+  the opening is cut off ..   a kept file ends within its opening. The store had not begun to serve
+  the first line isn't ..     the file is no kept file, or one of another version
 
 Exit status:
-  0  all entries are legal
-  1  a line or a sum is at fault, or reading or writing failed, or memory ran out
+  0  all entries are legal, also if the last lines of a FILE were cut off
+  1  a line or a sum is at fault, a FILE is damaged, reading or writing failed, or memory ran out. Of several FILEs one
+     is enough
   2  the words of the command line were not accepted
 
 Example:
@@ -75,7 +101,15 @@ Example:
 
   tgaudit --after part1.txt < part2.txt
   audits the next part, and checks that its head has the sum of part1.txt.
+
+  tgaudit --front damaged.kept > front.kept
+  writes the lines before the damage to a file that can be opened.
 ";
+
+/// How the program is called.
+pub const USAGE: &str = "Usage: tgaudit [OPTIONS] <TEXT
+       tgaudit FILE..
+       tgaudit --front FILE";
 
 /// What is said after a fault of the words.
 pub const MORE: &str = "For more information, try '--help'.";
@@ -99,3 +133,32 @@ pub const OF_A_SUM: &str =
 /// What the end has to be.
 pub const OF_THE_END: &str =
     "the last line is 'entries N', with the number of entries and a line feed";
+
+/// What the first line of a kept file has to be.
+pub const OF_A_FIRST_LINE: &str =
+    "a kept file begins with the line 'kovshenul kept 1 @c4b942f6', and a line feed after it";
+
+/// What a kept file of another version is read by.
+pub const OF_ANOTHER_VERSION: &str =
+    "this tgaudit reads the form 'kovshenul kept 1'; read the file by the tgaudit of the version that wrote it";
+
+/// How the text of a history is read.
+pub const OF_A_TEXT: &str =
+    "this is the text of a history, whose lines have no sums; tgaudit reads it from standard input, as in 'tgaudit <FILE'";
+
+/// What to do about damage.
+pub const OF_DAMAGE: &str =
+    "a whole line was there, and was altered, moved or lost; take FILE from a copy, or write the lines before the damage by 'tgaudit --front FILE >NEW'";
+
+/// What the opening of a kept file has to be.
+pub const OF_AN_OPENING: &str =
+    "after the first line come 'opening WORKERS VERTICES', WORKERS lines 'worker', and the edges; a store writes the whole opening under another name, and then renames the file";
+
+/// What a name has to be of which there is no file.
+pub const OF_A_MISSING_FILE: &str = "give the name of a kept file that is there";
+
+/// What a file has to be that may not be read.
+pub const OF_PERMISSION: &str = "who runs tgaudit needs the right to read the file";
+
+/// What a name has to be that is a folder's.
+pub const OF_A_FOLDER: &str = "give the name of a kept file, and not of a folder";

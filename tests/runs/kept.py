@@ -1,0 +1,129 @@
+#!/usr/bin/env python3
+"""tests/runs/kept.py [--check]
+
+Writes the kept files of the rows of tests/runs/audit whose names begin with kept_: for each row the folder files. Each is
+made from one small history, by zlib's CRC-32 and with no code of the store. The texts that tgaudit has to write beside
+them are stored by hand. With --check it compares the stored files with those that it makes, and writes nothing. The
+last line is 'kept: N files'."""
+import sys
+import zlib
+from collections.abc import Iterable
+from pathlib import Path
+
+HERE = Path(__file__).resolve().parent
+
+FIRST = b"kovshenul kept 1"
+OPENING = (b"opening 2 1000000", b"worker c0", b"worker c0", b"edge 0 1 rw")
+# The batches of a run of three entries, and the two marks by which a close ends it.
+BATCHES = ((FIRST,), OPENING, (b"0 create r c0 = ok 2",), (b"0 write 1 7 = ok", b"0 read 1 = ok 7"))
+MARKS = ((b"entries 3",), (b"entries 3",))
+
+
+def kept(batches: Iterable[Iterable[bytes]]) -> bytes:
+    """The bytes of a kept file that has these batches of texts."""
+    file, before = b"", b"00000000"
+    for batch in batches:
+        for place, text in enumerate(batch):
+            before = b"%08x" % zlib.crc32(before + text)
+            file += text + b" " + (b"#" if place else b"@") + before + b"\n"
+    return file
+
+
+OPEN, CLOSED = kept(BATCHES), kept(BATCHES + MARKS)
+
+
+def line(number: int, file: bytes = CLOSED) -> int:
+    """Where the line of this number begins, which is counted from 1."""
+    return sum(len(it) for it in file.splitlines(keepends=True)[: number - 1])
+
+
+def altered(place: int, bytes_there: bytes) -> bytes:
+    """The closed file with these bytes at the place."""
+    return CLOSED[:place] + bytes_there + CLOSED[place + len(bytes_there) :]
+
+
+def reordered(*numbers: int) -> bytes:
+    """The lines of the closed file with these numbers."""
+    lines = CLOSED.splitlines(keepends=True)
+    return b"".join(lines[number - 1] for number in numbers)
+
+
+def flipped(place: int) -> bytes:
+    """The closed file with the lowest bit of one byte flipped."""
+    return altered(place, bytes([CLOSED[place] ^ 1]))
+
+
+FILES = {
+    "kept_closed": {"store": CLOSED},
+    "kept_in_use": {"store": OPEN + bytes(4096)},
+    "kept_cut_at_the_end_of_a_batch": {"store": OPEN},
+    "kept_ends_that_are_cut_off": {
+        "one_byte": OPEN[: line(8) + 1],
+        "in_the_text": OPEN[: line(8) + 7],
+        "in_the_sum": OPEN[:-4],
+        "no_line_feed": OPEN[:-1],
+        "no_line_feed_and_zeros": OPEN[:-1] + bytes(100),
+        "a_zero_in_the_line": OPEN[: line(8) + 7] + bytes(1) + OPEN[line(8) + 8 :] + bytes(100),
+        "both_lines": OPEN[: line(7) + 3],
+        "a_mark": CLOSED[:-3],
+    },
+    "kept_a_flipped_bit": {
+        "in_a_text": flipped(line(6) + 4),
+        "in_a_sum": flipped(line(7) - 3),
+        "in_a_mark": flipped(line(7) - 11),
+        "in_a_line_feed": flipped(line(7) - 1),
+        "in_an_opening": flipped(line(3)),
+    },
+    "kept_a_bit_of_the_last_mark": {"store": flipped(line(10) + 2)},
+    "kept_a_line_gone": {"store": reordered(1, 2, 3, 4, 5, 7, 8, 9, 10)},
+    "kept_a_line_twice": {"store": reordered(1, 2, 3, 4, 5, 6, 7, 7, 8, 9, 10)},
+    "kept_two_lines_swapped": {"store": reordered(1, 2, 3, 4, 5, 7, 6, 8, 9, 10)},
+    "kept_zeros_in_the_middle": {"store": altered(line(5), bytes(30))},
+    "kept_another_version": {"store": kept(((b"kovshenul kept 2",),) + BATCHES[1:])},
+    "kept_a_later_version": {"store": kept(((b"kovshenul kept 10",),) + BATCHES[1:])},
+    "kept_another_programs_file": {"store": b"SQLite format 3\0" + bytes(range(256))},
+    "kept_a_text": {"store": b"kovshenul entries 1\nopening 1 9\nworker c0\nentries 0\n"},
+    "kept_an_empty_file": {"store": b""},
+    "kept_zeros_alone": {"store": bytes(4096)},
+    "kept_the_first_line_is_damaged": {"store": flipped(line(2) - 3)},
+    "kept_the_first_line_is_cut_off": {"store": CLOSED[: line(2) - 1]},
+    "kept_a_reply_that_is_none": {"store": kept((*BATCHES[:3], (b"0 write 1 7 = ok", b"0 read 1 = ok 8")))},
+    "kept_a_line_that_is_none": {"store": kept((*BATCHES[:3], (b"0 write 1 7 = ok", b"0 reads 1 = ok 7")))},
+    "kept_a_mark_with_another_number": {"store": kept(BATCHES + ((b"entries 2",), (b"entries 2",)))},
+    "kept_no_opening": {"store": kept(BATCHES[:1])},
+    "kept_an_opening_that_is_cut_off": {"store": kept(BATCHES[:1] + (OPENING[:2],))},
+    "kept_no_entry": {"store": kept(BATCHES[:2] + ((b"entries 0",), (b"entries 0",)))},
+    "kept_marks_between_entries": {"store": kept(BATCHES[:3] + ((b"entries 1",), (b"entries 1",)) + BATCHES[3:] + MARKS)},
+    "kept_several_files": {"first": CLOSED, "second": flipped(line(6) + 4), "third": OPEN},
+    "kept_front_of_a_closed_file": {"store": CLOSED},
+    "kept_front_of_a_damaged_file": {"store": flipped(line(6) + 4)},
+    "kept_front_of_an_end_that_is_cut_off": {"store": OPEN[:-4] + bytes(50)},
+    "kept_front_of_another_version": {"store": kept(((b"kovshenul kept 2",),) + BATCHES[1:])},
+    "kept_an_option_after_a_file": {"store": CLOSED},
+    "kept_a_file_after_a_front": {"store": CLOSED},
+}
+
+
+def main() -> int:
+    """Writes the files, or compares them. Returns the status."""
+    if sys.argv[1:] not in ([], ["--check"]):
+        print(__doc__)
+        return 0 if sys.argv[1:] in (["--help"], ["-h"]) else 2
+    wrong = count = 0
+    for row, files in FILES.items():
+        folder = HERE / "audit" / row / "files"
+        for name, file in files.items():
+            count += 1
+            if sys.argv[1:]:
+                if not (folder / name).is_file() or (folder / name).read_bytes() != file:
+                    print(f"kept: {folder / name} isn't what this script makes", file=sys.stderr)
+                    wrong += 1
+            else:
+                folder.mkdir(parents=True, exist_ok=True)
+                (folder / name).write_bytes(file)
+    print(f"kept: {count} files")
+    return 1 if wrong else 0
+
+
+if __name__ == "__main__":
+    sys.exit(main())
