@@ -5,7 +5,7 @@ use std::alloc::{AllocError, Global};
 use std::collections::{BTreeMap, BTreeSet};
 use tg_entries::{History, HistoryStart};
 use tg_journal::Entry;
-use tg_model::{Deed, Edge, Picture, Reply};
+use tg_model::{Deed, Edge, Reply};
 use tg_plain::last_picture;
 use tg_rights::Rights;
 
@@ -13,7 +13,8 @@ use tg_rights::Rights;
 /// remembers whether memory ran out for a part of it.
 #[derive(Drop)]
 pub struct PastRun {
-    picture: Picture,
+    // The active subjects.
+    subjects: Vec<u64>,
     /// The names of the vertices.
     pub names: BTreeSet<u64>,
     /// The names of those that are subjects, or were subjects until they retired.
@@ -30,19 +31,26 @@ pub struct PastRun {
 impl PastRun {
     /// The graph after a history. Fails only when out of memory.
     pub fn of(alloc: Global, history: &History) -> Result<PastRun, AllocError> {
-        let mut run = PastRun {
-            picture: last_picture(alloc, history)?,
+        let picture = last_picture(alloc, history)?;
+        let mut run = PastRun::new(alloc, picture.subjects())?;
+        run.open(&history.start);
+        run.add_made(history.entries.as_slice());
+        run.add_edges(picture.edges());
+        run.reach(picture.made());
+        Ok(run)
+    }
+
+    // A run of which nothing is known but the active subjects. Fails only when out of memory.
+    fn new(alloc: Global, subjects: &[u64]) -> Result<PastRun, AllocError> {
+        Ok(PastRun {
+            subjects: Vec::from_slice(alloc, subjects)?,
             names: BTreeSet::new(alloc),
             ever_subjects: BTreeSet::new(alloc),
             ends: BTreeSet::new(alloc),
             rights: BTreeMap::new(alloc),
             reached: Reach::new(alloc),
             is_short: false,
-        };
-        run.open(&history.start);
-        run.add_made(history.entries.as_slice());
-        run.add_edges();
-        Ok(run)
+        })
     }
 
     /// Whether memory ran out.
@@ -52,7 +60,7 @@ impl PastRun {
 
     /// Whether the vertex is an active subject.
     pub fn is_subject(&self, name: u64) -> bool {
-        self.picture.subjects().contains(&name)
+        self.subjects.contains(&name)
     }
 
     /// Whether a subject reaches the vertex.
@@ -91,14 +99,17 @@ impl PastRun {
         }
     }
 
-    // Adds the edges of the picture, and looks for what its subjects reach.
-    fn add_edges(&mut self) {
-        for at in 0..self.picture.edges().len() {
-            let edge = self.picture.edges()[at];
-            self.add_edge(edge);
-        }
+    // Looks for what the subjects reach, if so many vertices were made.
+    fn reach(&mut self, made: u64) {
         self.reached
-            .fill(self.picture.subjects(), self.picture.made(), &self.ends);
+            .fill(self.subjects.as_slice(), made, &self.ends);
+    }
+
+    // Adds edges.
+    fn add_edges(&mut self, edges: &[Edge]) {
+        for edge in edges {
+            self.add_edge(*edge);
+        }
     }
 
     // Adds an edge, or widens the one with the same ends.
