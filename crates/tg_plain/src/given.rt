@@ -19,7 +19,7 @@ pub struct GivenOptions {
 impl GivenOptions {
     /// A fault if one of the numbers isn't that of the history, or a stock is given.
     pub(crate) fn check(self, history: &History) -> Result<(), PlainFault>
-        ensures { OnOk result (AgreesWith self.entry history.now.start) }
+        ensures { OnOk result (AgreesWith self history.now.start) }
     {
         self.check_stock()?;
         agree("workers", self.workers, workers_of(&history.start))?;
