@@ -51,10 +51,13 @@ RUNS = [
     Runs("tgcould", [*OPTIONS, "--as-if", "1 3 l", "--silent", "0", "--never", "1 * *"], SCRIPT),
     Runs("tgcould", [*OPTIONS, "--ask", "1 r 3"], SCRIPT + b"0 retired\n"),
     Runs("tgcould", [*OPTIONS, "--never", "1 w 2"], SCRIPT + b"1 write 2 5\n7 list\n"),
+    Runs("tgcould", ["--ask", "0 w 1"], TEXT),
+    Runs("tgcould", ["--as-if", "9 7 w", "--ask", "2 w 7"], PART),
     Runs("tgcould", ["--help"], b""),
     Runs("tgcould", ["--ask"], b""),
     Runs("tgdot", OPTIONS, SCRIPT),
     Runs("tgdot", [*OPTIONS, "--steps", "--from", "2"], SCRIPT),
+    Runs("tgdot", [], PART),
     Runs("tgdot", ["--unknown"], b""),
 ]
 

@@ -154,6 +154,8 @@ NAMED = {
     ("tg_entries/src/stream.rt", "skip_line", "u64::MAX"): "a piece of the line each",
     ("tgaudit/src/kept.rt", "audit_rest", "while let Some(text)=reader.next()"): "a line of the file each",
     ("tg_plain/src/script.rt", "add_lines", "while let Some(line)=reading.next(source,&mut sink)?"): "a line of the reader each",
+    ("tg_past/src/edges.rt", "read", "while left>0"): "an entry each",
+    ("tg_plain/src/input.rt", "read_front", "u64::MAX"): "a byte of the mark each",
     ("tg_evac/src/copies.rt", "scan", "while next<claimer.len()"): "a cell that was won each",
     ("tg_evac/src/walk.rt", "each", "loop"): "a root each",
     ("tg_rows/src/followed.rt", "follow_rows", "while i<rows.len()"): "an indexed row each",

@@ -1,2 +1,3 @@
 -- What private calls ask for and promise. No public clause cites it.
 pub mod Reading
+pub mod Past

@@ -2,4 +2,5 @@ pub mod Boxes
 pub mod Grown
 pub mod Inner
 pub mod Lines
+pub mod Past
 pub mod Refused

@@ -1,4 +1,8 @@
-//! Runs the lines of a script on the plain graph of `tg_model`, without heap, journal and collection.
+//! Runs the lines of a script on the plain graph of `tg_model`, without heap, journal and collection. Or replays the
+//! text of a history.
+//!
+//! An [`InputText`] is what a reader has, which is a script or a history. [`last_picture`] is the picture of the graph
+//! after a history.
 //!
 //! A [`Script`] has the lines of a reader up to the first fault in its bytes. It also has what they run on, which is
 //! workers, a limit of vertices and a stock. It is read as `tgstore` reads it, in bounded memory. [`PlainRun::open`] is
@@ -9,15 +13,19 @@
 //!
 //! The definitions to believe are in `specs/Lines`. They say which lines some bytes are (by `ReadsScript` of
 //! `tg_text`). They also say which graph a line leaves, what its answer is, and how many boxes were taken.
-//! `specs/Refused` says which answers mean that a line was denied or refused. `Inner` has definitions that only this
+//! `specs/Refused` says which answers mean that a line was denied or refused. `specs/Past` says what the text of a
+//! history leaves. `Inner` has definitions that only this
 //! crate uses.
 #![tactic(auto)]
 
 mod bad_stock;
 mod fault;
+mod given;
 mod heard;
+mod input;
 mod options;
 mod outcome;
+mod past;
 mod program;
 mod ranges;
 mod reading;
@@ -28,8 +36,11 @@ mod text;
 
 pub use bad_stock::{StockReason, stock_reason};
 pub use fault::PlainFault;
+pub use given::GivenOptions;
+pub use input::InputText;
 pub use options::{Choice, CommandLine, PlainOptions, STOCK, VERTICES, WORKERS, read_options};
 pub use outcome::Outcome;
+pub use past::last_picture;
 pub use program::{Program, obey};
 pub use ranges::NumberOption;
 pub use refused::RefusedLine;

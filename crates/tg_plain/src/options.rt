@@ -2,6 +2,7 @@
 ghost use Rattle.std.specs.Prelude.{◌≡◌, codes, option_map};
 ghost use Rattle.clap.specs.Matches.{first_value, found_of};
 
+use crate::given::GivenOptions;
 use crate::ranges::NumberOption;
 use clap::builder::ValueParser;
 use clap::error::ErrorKind;
@@ -69,6 +70,8 @@ pub struct PlainOptions<'a> {
     pub max_vertices: u64,
     /// The text of the stock, as it was written, or `None` if boxes are cells without end.
     pub stock: Option<&'a str>,
+    /// What the words of the command line say of these.
+    pub given: GivenOptions,
 }
 
 /// What the words say of workers and vertices, or else their defaults, and of the stock. If they say nothing of it,
@@ -76,10 +79,21 @@ pub struct PlainOptions<'a> {
 pub fn read_options<'a>(matches: &ArgMatches<'a>) -> PlainOptions<'a>
     ensures stock { option_map (λ text. text.now) result.stock ≡ first_value (found_of matches.now) (codes "stock") }
 {
+    let given = given_options(matches);
     PlainOptions {
-        workers: matches.get_one("workers").unwrap_or(2),
-        max_vertices: matches.get_one("vertices").unwrap_or(1_000_000),
+        workers: given.workers.unwrap_or(2),
+        max_vertices: given.max_vertices.unwrap_or(1_000_000),
         stock: matches.get_str("stock"),
+        given,
+    }
+}
+
+// What the words say of workers, vertices and the stock.
+fn given_options(matches: &ArgMatches) -> GivenOptions {
+    GivenOptions {
+        workers: matches.get_one("workers"),
+        max_vertices: matches.get_one("vertices"),
+        has_stock: matches.get_str("stock").is_some(),
     }
 }
 

@@ -1,40 +1,60 @@
-//! What a script leaves.
+//! What a script or a history leaves.
 ghost use Rattle.std.specs.Prelude.{◌≡◌, ℕ, List, Some, None, IfOk, OnOk};
-ghost use Rattle.tg_plain.specs.Lines.{IsOutcome, IsOutcomeOf, boxes_left as left_of, boxes_of};
+ghost use Rattle.tg_entries.specs.Kept.{IsTextOf};
+ghost use Rattle.tg_plain.specs.Lines.{IsOutcome, boxes_left as left_of, boxes_of};
+ghost use Rattle.tg_plain.specs.Past.{IsLeftBy, IsPastOf};
 
 use crate::fault::PlainFault;
+use crate::input::InputText;
 use crate::options::PlainOptions;
+use crate::past::last_picture;
 use crate::refused::RefusedLine;
 use crate::run::PlainRun;
 use crate::script::Script;
 use std::alloc::Global;
 use std::io::Read;
+use tg_entries::History;
 use tg_model::Picture;
 
-/// What the lines of a script leave. It is the picture of their graph, how many boxes they didn't take, and which lines
-/// were denied or refused.
+/// What the lines of a script or the entries of a history leave. It is the picture of their graph, how many boxes they
+/// didn't take, and which lines were denied or refused.
 #[derive(Drop)]
 pub struct Outcome {
     /// The picture of the graph.
     pub picture: Picture,
-    /// How many boxes are left, or `None` if they have no end.
+    /// How many boxes are left, or `None` if they have no end. After a history they aren't counted.
     pub boxes: Option<u64>,
-    /// The lines that were denied or refused, in their order.
+    /// The lines that were denied or refused, in their order. A history has none: its entries say what happened.
     pub refused: Vec<RefusedLine>,
 }
 
 impl Outcome {
-    /// What the script leaves that the reader has, run with these options. Fails as [`Script::read`] and
-    /// [`Outcome::of`] do.
+    /// What the script leaves that the reader has, run with these options. Or what the history leaves whose text the
+    /// reader has. Fails as [`InputText::read`], [`Outcome::of`] and [`Outcome::of_history`] do.
     pub fn read<R: Read + Drop>(
         alloc: Global,
         options: PlainOptions,
         reader: R,
     ) -> Result<Outcome, PlainFault>
-        ensures { (bytes : List ℕ) → R.remaining reader ≡ Some bytes → IfOk result (IsOutcomeOf options.entry bytes) }
+        ensures { (bytes : List ℕ) → R.remaining reader ≡ Some bytes → IfOk result (IsLeftBy options.entry bytes) }
     {
-        let script = Script::read(alloc, options, reader)?;
-        Outcome::of(&script)
+        let input = InputText::read(alloc, options, reader)?;
+        match input {
+            InputText::Lines(script) => Outcome::of(&script),
+            InputText::Entries(history) => Outcome::of_history(alloc, &history),
+        }
+    }
+
+    /// What a legal history leaves. Fails only when out of memory.
+    pub fn of_history(alloc: Global, history: &History) -> Result<Outcome, PlainFault>
+        ensures { IfOk result (λ outcome. (bytes : List ℕ) → IsTextOf bytes history.now → IsPastOf bytes outcome) }
+    {
+        let picture = last_picture(alloc, history)?;
+        Ok(Outcome {
+            picture,
+            boxes: None,
+            refused: Vec::new(alloc),
+        })
     }
 
     /// What a script leaves, which has no fault. Fails as [`PlainRun::of`] does, and at a fault.

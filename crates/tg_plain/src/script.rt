@@ -16,8 +16,8 @@ use std::sync::ledger::{Blank, Ledger};
 use tg_model::Edge;
 use tg_text::{Count, Line, OfRead, ScriptFault, Source, StockFault, StockItem, read_stock};
 
-// How many bytes are read at once.
-const BLOCK: usize = 65536;
+/// How many bytes are read at once.
+pub(crate) const BLOCK: usize = 65536;
 
 /// A line of a script.
 #[derive(Clone, Copy)]

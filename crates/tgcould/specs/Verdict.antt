@@ -10,7 +10,7 @@ use Rattle.tg_could.specs.Turns.{NeverHolds}
 use Rattle.tg_plain.specs.declared.options.PlainOptions.{PlainOptions}
 use Rattle.tg_plain.specs.declared.outcome.Outcome.{Outcome}
 use Rattle.tg_plain.specs.declared.refused.RefusedLine.{RefusedLine}
-use Rattle.tg_plain.specs.Lines.{IsOutcomeOf}
+use Rattle.tg_plain.specs.Past.{IsLeftBy}
 use Rattle.tgcould.specs.declared.options.TheConstants.{ALLOW_DENIED, NEVER}
 use Rattle.tgcould.specs.declared.query.Query.{Query}
 use Rattle.tgcould.specs.declared.query.Query.TheVariants.{Hold, Who, What}
@@ -63,11 +63,11 @@ FailsPolicies matches refused = HasPolicy matches × (¬ AllowsDenied matches) �
 abbrev pub SaysStock : ArgMatches → PlainOptions → Type 0
 SaysStock matches options = option_map (λ s. s.now) options.stock ≡ first_value (found_of matches) (codes "stock")
 
--- What the exit status says of a script that was read to its end. If it is known which bytes the reader had, the script is these. If the
--- status is 0, all policies are kept on the graph that the script leaves. It is 3 exactly if lines of the script fail the policies.
+-- What the exit status says of a script or a history that was read to its end. If it is known which bytes the reader had, they are its
+-- text. If the status is 0, all policies are kept on the graph that it leaves. It is 3 exactly if lines of the script fail the policies.
 pub record IsVerdict (options : PlainOptions) (matches : ArgMatches) (remaining : Option (List ℕ)) (status : ℕ) : Type 0 where
   pub outcome : Outcome
-  pub left : IfSome remaining (λ bytes. IsOutcomeOf options bytes outcome)
+  pub left : IfSome remaining (λ bytes. IsLeftBy options bytes outcome)
   pub supposed : Supposed
   pub is_supposed : IsSupposed matches supposed
   pub kept : status ≡ 0 → AreKept matches supposed outcome.picture

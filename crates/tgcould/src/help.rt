@@ -2,9 +2,10 @@
 
 pub const ABOUT: &str = "Answers whether x could ever come to hold a right over y
 
-Reads a script of tgstore from standard input and runs it. Then it answers questions about the graph that the script
-leaves: could x come to hold a right over y, by any commands of the active subjects? Name each subject that you trust as
-silent. A silent subject gives no command. Both answers, 'never' and 'could', are proved.";
+Reads a script of tgstore from standard input and runs it. Or it reads the text of a history, as tgstore --entries
+writes it, and replays it. Then it answers questions about the graph that it leaves: could x come to hold a right over y,
+by any commands of the active subjects? Name each subject that you trust as silent. A silent subject gives no command.
+Both answers, 'never' and 'could', are proved.";
 
 pub const STOCK: &str =
     "Names the boxes that new vertices take, as --stock of tgstore does [default:
@@ -64,6 +65,12 @@ Answers:
 
   The answers are about the graph alone, which has no heap. So a 'full' in the script frees nothing here, and a vertex that
   it would free is answered about as it was.
+
+Histories:
+  The text of a history begins with 'kovshenul entries 1', or with the snapshot of an earlier graph. So the answers are
+  about a store that exists. A text that tgaudit refuses is refused with the same message. The history decides --workers
+  and --vertices: leave them out, or give its own numbers. --stock isn't accepted with a history. A denied entry doesn't
+  fail a policy. A vertex that the snapshot doesn't show, and that no entry makes, holds nothing.
 
 What is no right:
   tgcould answers about rights. A worker also learns from names, from refusals for room, from the number of a 'full' and

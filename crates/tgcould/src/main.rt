@@ -1,7 +1,8 @@
-//! Answers whether x could ever come to hold a right over y, on the graph that a script leaves.
+//! Answers whether x could ever come to hold a right over y, on the graph that a script or a history leaves.
 //!
 //! It reads the script that `tgstore` reads, with the same options `--workers`, `--vertices` and `--stock`. `tg_plain`
-//! runs it on the plain graph, and `tg_could` answers about its picture. The program prints the text of that answer.
+//! runs it on the plain graph, and `tg_could` answers about its picture. The text of a history, which begins with
+//! `kovshenul `, is replayed. The program prints the text of that answer.
 //!
 //! `options` reads the words of the command line, `checks` reports a word that isn't valid, and `supposed` has what the
 //! words suppose. `query` has the question. `ask` asks it and writes the answer with the texts of `text`, and `stars`

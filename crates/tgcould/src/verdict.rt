@@ -19,9 +19,9 @@ use tg_plain::{Outcome, PlainFault, PlainOptions, RefusedLine};
 // The status if a line of the script was denied or refused, and there is a policy that doesn't allow it.
 const REFUSED_LINES: u8 = 3;
 
-/// Answers what is asked on the graph that the reader's script leaves, run with these options, and reports its lines
-/// that were denied or refused. Returns the exit status. If it is 0, all policies are kept. It is 3 exactly if there is
-/// a policy, no line may be denied, and a line was denied or refused.
+/// Answers what is asked on the graph that the reader's script leaves, run with these options, or that its history
+/// leaves. Reports the script's lines that were denied or refused. Returns the exit status. If it is 0, all policies
+/// are kept. It is 3 exactly if there is a policy, no line may be denied, and a line was denied or refused.
 pub fn status_of<R: AllocGlobal + Print + Eprint, B: Read + Drop>(
     rt: &R,
     matches: &ArgMatches,

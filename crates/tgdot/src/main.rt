@@ -1,17 +1,18 @@
 //! Draws the graph that a script leaves, or the graph after each line, in the language of GraphViz's `dot`.
 //!
 //! It reads the script that `tgstore` reads, with the same options `--workers`, `--vertices` and `--stock`. It runs the
-//! script on the plain graph of `tg_model`, without heap and journal. Then it prints a digraph. A box is a subject,
+//! script on the plain graph of `tg_model`, without heap and journal. Or it reads the text of a history, and replays
+//! it. Then it prints a digraph. A box is a subject,
 //! with a dashed border if it retired. A circle is an object, and an arrow with its rights is an edge. What no subject
 //! reaches any more is grey, and a collection of the whole heap frees it. With `--steps` it prints a digraph for each
 //! line.
 //!
 //! `options` reads the words of the command line. `tg_plain` reads the script and runs its lines. `run` follows them,
 //! and knows which edges there are, so that only pairs of vertices with an edge are asked for. `reach` says what
-//! subjects reach. `drawing` writes the last graph. For the steps, `shot` says what is shown at a step, `marks` what is
-//! marked and `look` how it looks. `frame` has what all steps share, `picture` writes one, and `steps` writes all. They
-//! write into a `PlainText`, which is printed at once. A new line of the grammar needs a place in `run`, which takes
-//! and follows it, and in `named` of `marks`.
+//! subjects reach. `past` has the graph after a history. `drawing` writes the last graph. For the steps, `shot` says
+//! what is shown at a step, `marks` what is marked and `look` how it looks. `frame` has what all steps share, `picture`
+//! writes one, and `steps` writes all. They write into a `PlainText`, which is printed at once. A new line of the
+//! grammar needs a place in `run`, which takes and follows it, and in `named` of `marks`.
 #![tactic(auto)]
 
 mod drawing;
@@ -19,6 +20,7 @@ mod frame;
 mod look;
 mod marks;
 mod options;
+mod past;
 mod picture;
 mod reach;
 mod run;
@@ -26,12 +28,13 @@ mod shot;
 mod steps;
 
 use clap::ArgMatches;
-use drawing::write_last;
+use drawing::{write_last, write_past};
 use options::{COMMAND_LINE, DotOptions, LineRange, options_of};
 use std::alloc::Global;
 use std::process::ExitCode;
 use steps::write_steps;
-use tg_plain::{PlainFault, PlainText, Program, Script, obey};
+use tg_entries::History;
+use tg_plain::{InputText, PlainFault, PlainText, Program, Script, obey};
 
 fn main(rt: HostRuntime) -> ExitCode {
     ExitCode::from(obey(&rt, &COMMAND_LINE, &Plotting))
@@ -43,13 +46,13 @@ struct Plotting;
 
 impl<R: AllocGlobal + Print + Input> Program<R> for Plotting {
     fn run(&self, rt: &R, matches: &ArgMatches) -> Result<u8, PlainFault> {
-        draw_script(rt, rt.alloc(), options_of(matches))?;
+        draw_input(rt, rt.alloc(), options_of(matches))?;
         Ok(0)
     }
 }
 
-// Draws what the script on standard input leaves, or its steps.
-fn draw_script<R: Print + Input>(
+// Draws what the script or the history on standard input leaves, or the steps of the script.
+fn draw_input<R: Print + Input>(
     rt: &R,
     alloc: Global,
     options: DotOptions,
@@ -57,8 +60,18 @@ fn draw_script<R: Print + Input>(
     if let Some(range) = options.steps {
         range.check()?;
     }
-    let script = Script::read(alloc, options.plain, rt.reader())?;
-    print(rt, &mut PlainText::new(alloc), options.steps, &script)
+    match InputText::read(alloc, options.plain, rt.reader())? {
+        InputText::Lines(script) => print(rt, &mut PlainText::new(alloc), options.steps, &script),
+        InputText::Entries(_) if options.steps.is_some() => Err(PlainFault::StepsOfHistory),
+        InputText::Entries(history) => draw_history(rt, alloc, &history),
+    }
+}
+
+// Prints the graph that a history leaves.
+fn draw_history<R: Print>(rt: &R, alloc: Global, history: &History) -> Result<(), PlainFault> {
+    let mut text = PlainText::new(alloc);
+    write_past(&mut text, alloc, history)?;
+    text.print(rt)
 }
 
 // Prints what these lines leave, or their steps. A fault in the script ends the steps.

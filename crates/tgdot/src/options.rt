@@ -8,9 +8,11 @@ use tg_plain::{
 
 const ABOUT: &str = "Draws the graph that a script leaves, for GraphViz's dot
 
-Reads a script of tgstore from standard input, runs it, and writes a digraph to standard output. A subject is a box, with
-a dashed border if it retired. An object is a circle, or an ellipse if its text is long. Each edge is an arrow with its
-rights. A vertex that no subject reaches is grey.
+Reads a script of tgstore from standard input, runs it, and writes a digraph to standard output. Or it reads the text of a
+history, as tgstore --entries writes it, and draws the graph after the last entry. The history decides --workers and
+--vertices, and --stock and --steps aren't accepted with it. A subject is a box, with a dashed border if it retired. An
+object is a circle, or an ellipse if its text is long. Each edge is an arrow with its rights. A vertex that no subject
+reaches is grey.
 
 With --steps it writes a digraph before the first command, and one after each command. All of them name the same vertices
 and edges, and hide what isn't there. So dot puts a vertex at one place in all of them. A vertex shows its law and its

@@ -2,7 +2,6 @@
 
 use std::alloc::Global;
 use std::collections::BTreeSet;
-use tg_model::Graph;
 
 /// The vertices that a subject reaches along edges. It remembers whether memory ran out for one of them.
 #[derive(Drop)]
@@ -25,14 +24,14 @@ impl Reach {
         }
     }
 
-    /// Looks anew for what the subjects of a graph reach along edges with these ends.
-    pub fn fill(&mut self, graph: &Graph, edges: &BTreeSet<(u64, u64)>) {
+    /// Looks anew for what these subjects reach along edges with these ends, if so many vertices were made.
+    pub fn fill(&mut self, subjects: &[u64], made: u64, edges: &BTreeSet<(u64, u64)>) {
         self.names.clear();
-        for name in graph.subjects() {
+        for name in subjects {
             self.add(*name);
         }
         // Each vertex waits once.
-        for _ in 0..graph.made() {
+        for _ in 0..made {
             let Some(from) = self.waiting.pop() else {
                 break;
             };

@@ -104,7 +104,9 @@ impl ScriptRun {
 
     /// Looks anew for what the subjects reach.
     pub fn reach(&mut self) {
-        self.reached.fill(&self.plain.graph, &self.edges);
+        let graph = &self.plain.graph;
+        self.reached
+            .fill(graph.subjects(), graph.made(), &self.edges);
     }
 
     /// Whether a subject reached the vertex when this was last looked for.

@@ -5,8 +5,8 @@ A script has 2 to 4 workers and up to 14 lines; of each graph that one leaves so
 subjects, and edges that are only supposed. Up to 130 names are left, and some questions are about names that aren't made yet. The
 plain program makes objects and a subject for each who acts and does all takes and grants to the end, by the rules written out here.
 Whoever holds a right then could; whoever doesn't never does. Each witness is run after its script by these rules, and by tgstore,
-which has to list the right where x is an active subject. Names more may be wanted only where names are short. The programs are
-those that 'rt run' built."""
+which has to list the right where x is an active subject. Names more may be wanted only where names are short. tgcould answers
+about the history that tgstore writes of the script as about the script. The programs are those that 'rt run' built."""
 
 import argparse
 import random
@@ -195,15 +195,24 @@ class Checker:
 
     def answers(self):
         """Each answer: its word, and the lines after it."""
-        words = self.words(TGCOULD, self.graph.limit, self.boxes)
-        words += [word for name in sorted(self.silent) for word in ("--silent", str(name))]
-        words += [word for edge in self.supposed for word in ("--as-if", edge)] + [word for text in self.asked for word in ("--ask", text)]
+        asked = [word for name in sorted(self.silent) for word in ("--silent", str(name))]
+        asked += [word for edge in self.supposed for word in ("--as-if", edge)] + [word for text in self.asked for word in ("--ask", text)]
+        words = self.words(TGCOULD, self.graph.limit, self.boxes) + asked
         ran = subprocess.run(words, input=self.text([]), capture_output=True, text=True, check=False)
         assert ran.returncode == 0, (words, ran.stderr, self.text([]))
+        self.check_history(asked, ran.stdout)
         for text, answer in zip(self.asked, ran.stdout.split("\n\n"), strict=False):
             head, _, rest = answer.partition("\n")
             assert head.startswith(text + ": "), (head, text)
             yield text, head[len(text) + 2:], rest.splitlines()
+
+    def check_history(self, asked, answers):
+        """Asks the same about the history that tgstore writes of the script."""
+        words = [*self.words(TGSTORE, self.graph.limit, self.boxes), "--entries"]
+        history = subprocess.run(words, input=self.text([]), capture_output=True, text=True, check=True).stdout
+        words = self.words(TGCOULD, self.graph.limit, 0) + asked
+        ran = subprocess.run(words, input=history, capture_output=True, text=True, check=False)
+        assert (ran.returncode, ran.stdout) == (0, answers), (words, ran.stderr, history)
 
     def text(self, more):
         return "".join(line + "\n" for line in [*self.lines, *more])

@@ -1,6 +1,6 @@
 use Rattle.std.proofs.Common.{List, sym, subst}
 use Rattle.tg_plain.specs.declared.refused.RefusedLine.{RefusedLine}
-use Rattle.tg_plain.specs.Lines.{IsOutcomeOf}
+use Rattle.tg_plain.specs.Past.{IsLeftBy}
 use Rattle.tgcould.specs.Verdict.{FailsPolicies}
 use Rattle.tgcould.proofs.VerdictLaws.{if_known}
 use Rattle.tgcould.proofs.verdict.status_of.Goals as goal
@@ -12,7 +12,7 @@ returns g c =
     let items = c.as_slice.ensures.value in
     record {
       outcome = outcome;
-      left = if_known (g.B.Read.remaining c.args.reader) (λ bytes. IsOutcomeOf c.args.options bytes outcome) (λ bytes is. c.in_ok-picture.ensures bytes is);
+      left = if_known (g.B.Read.remaining c.args.reader) (λ bytes. IsLeftBy c.args.options bytes outcome) (λ bytes is. c.in_ok-picture.ensures bytes is);
       supposed = c.args.supposed.now;
       is_supposed = c.requires;
       kept = λ zero. c.in_ok-status.ensures.0 (c.last_status.ensures.zero zero);

@@ -1,0 +1,4 @@
+pub mod RightSums
+pub mod ChangeLaws
+pub mod ActorLaws
+pub mod LostLaws
