@@ -1,4 +1,4 @@
-use Rattle.std.proofs.Common.{◌≡◌, ◌++◌, [], ℕ, List, drop, sym, ap, subst}
+use Rattle.std.proofs.Common.{◌++◌, [], ℕ, List, drop, sym, ap, subst}
 use Rattle.std.specs.Prelude.{OnOk}
 use Rattle.std.specs.List.{flat_map}
 use Rattle.tg_entries.specs.Read.{HasRead}
