@@ -106,9 +106,12 @@ FILES = {
 
 def main() -> int:
     """Writes the files, or compares them. Returns the status."""
-    if sys.argv[1:] not in ([], ["--check"]):
+    if sys.argv[1:] in (["--help"], ["-h"]):
         print(__doc__)
-        return 0 if sys.argv[1:] in (["--help"], ["-h"]) else 2
+        return 0
+    if sys.argv[1:] not in ([], ["--check"]):
+        print(f"kept: unexpected argument '{sys.argv[-1]}': --help has the manual", file=sys.stderr)
+        return 2
     wrong = count = 0
     for row, files in FILES.items():
         folder = HERE / "audit" / row / "files"
