@@ -110,7 +110,7 @@ def main() -> int:
         print(__doc__)
         return 0
     if sys.argv[1:] not in ([], ["--check"]):
-        print(f"kept.py: unexpected argument '{sys.argv[1]}': it takes --check or none", file=sys.stderr)
+        print(f"kept: unexpected argument '{sys.argv[-1]}': --help has the manual", file=sys.stderr)
         return 2
     wrong = count = 0
     for row, files in FILES.items():
