@@ -1,9 +1,10 @@
 -- Stores that go on from a history.
 use Rattle.std.proofs.Common.{◌≡◌, ◌∙◌, ◌+◌, ◌-◌, ◌<◌, ◌≤◌, ◌++◌, ℕ, List, [], length, take, drop, Some, arith, refl, sym, ap, subst}
-use Rattle.std.specs.Prelude.{slice_get, get_or}
+use Rattle.std.specs.Prelude.{slice_get}
 use Rattle.std.proofs.lemmas.List.{get_or_append_left, get_or-append-add, length-append, take-append-le}
 use Rattle.std.proofs.lemmas.Option.{get_or_from_slice_get, slice_get_within, slice_get-get_or}
 use Rattle.std.proofs.Math.ListN.{drop_of_length-le}
+use Rattle.std.proofs.Math.Nat.{lt_of_not-le}
 use Rattle.std.proofs.Math.Seq.{drop-append_seam, take-append-add}
 use Rattle.tg_model.specs.Graph.{ProtectionGraph, IsSound}
 use Rattle.tg_model.specs.Opened.{Plan, start_of}
@@ -36,7 +37,7 @@ pub opened : (plan : Plan) (limits : BlockLimits) (s : StoreState) → StandsFor
 opened plan limits s stands opening none handed is = record {
   place = handed;
   count = ap (λ (l : List Entry). length l) none;
-  held = ap (λ n. drop n s.entries) handed ∙ none;
+  held = drop_of_length-le s.entries (omega (arith, ap (λ (l : List Entry). length l) none));
   legal = tt;
   graph = stands;
   origin = opening;
@@ -115,7 +116,9 @@ bad_on : (begin : HistoryStart) (es : List Entry) (limits : BlockLimits) (mid : 
 bad_on begin es limits mid at was faithful bad =
     let g : ProtectionGraph = start_at mid.opening in
     let count : length mid.entries ≡ entries_before begin + 0 = was.count in
-    let late : length mid.entries ≤ at = omega (arith, not_early g mid.entries es at faithful.legal bad) in
+    let after : length mid.entries < at + 1 =
+    lt_of_not-le {n = at + 1} {m = length mid.entries} (λ (h : at + 1 ≤ length mid.entries). not_early g mid.entries es at faithful.legal bad (omega (arith, h))) in
+    let late : length mid.entries ≤ at = omega (arith, after) in
     let done : ℕ = at - length mid.entries in
     let place : at ≡ length mid.entries + done = omega (arith, late) in
     let later : IsFirstBad (graph_after g mid.entries) es done =

@@ -36,14 +36,14 @@ IsOriginOf (Shown snapshot) origin = (origin.shown ≡ Some snapshot) × (origin
 
 -- The store goes on from a history. Its journal begins after the entries before the history, and holds exactly those of the history. They
 -- are legal, and the store represents the graph after them.
-pub record IsRevived (start : HistoryStart) (es : List Entry) (limits : BlockLimits) (store : StoreState) : Type 0 where
+pub record IsRevived (start : HistoryStart) (es : List Entry) (given : BlockLimits) (store : StoreState) : Type 0 where
   pub place : store.handed ≡ entries_before start
   pub count : length store.entries ≡ entries_before start + length es
   pub held : drop store.handed store.entries ≡ es
   pub legal : IsLegal (graph_of_start start) es
   pub graph : graph_of_store store ≡ graph_after (graph_of_start start) es
   pub origin : IsOriginOf start store.opening
-  pub limits : store.heap.table.limits ≡ limits
+  pub limits : store.heap.table.limits ≡ given
 
 -- nobody can act at the beginning of the history
 abbrev pub HasNoSubject : HistoryStart → Type 0

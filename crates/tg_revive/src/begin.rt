@@ -1,5 +1,5 @@
 //! The store at the beginning of a history.
-ghost use Rattle.std.specs.Prelude.{◌≡◌, ◌≤◌, [], ◌↔◌, Err, IfErr, IfOk, List};
+ghost use Rattle.std.specs.Prelude.{◌≡◌, ◌≤◌, [], Err, IfErr, IfOk, List};
 ghost use Rattle.std.specs.List.{All};
 ghost use Rattle.tg_model.specs.declared.opening.TheConstants.{MAX_LASTING_VERTICES};
 ghost use Rattle.tg_model.specs.Opened.{ValueFits};
@@ -49,14 +49,16 @@ fn open<P: Payload, M: Maker<P>>(
     let drafts = drafts_of(alloc, maker, opening.values())?;
     match Store::open(alloc, opening, limits, drafts) {
         Ok(store) => Ok(store),
-        Err(refused) => Err(ReviveFault::NotBegun {
-            why: match refused.why {
-                OpenFault::HeapFull => RoomFault::HeapFull,
-                OpenFault::OutOfMemory => RoomFault::OutOfMemory,
-                // The drafts have the opening's values.
-                OpenFault::PayloadMismatch { .. } => unreachable!(),
-            },
-        }),
+        Err(refused) => match refused.why {
+            OpenFault::HeapFull => Err(ReviveFault::NotBegun {
+                why: RoomFault::HeapFull,
+            }),
+            OpenFault::OutOfMemory => Err(ReviveFault::NotBegun {
+                why: RoomFault::OutOfMemory,
+            }),
+            // The drafts have the opening's values.
+            OpenFault::PayloadMismatch { .. } => unreachable!(),
+        },
     }
 }
 
@@ -72,7 +74,8 @@ fn drafts_of<P: Payload, M: Maker<P>>(
     let mut drafts = Vec::with_capacity(alloc, values.len())?;
     for value in values {
         let name = drafts.len() as u64;
-        drafts.push(draft_of(alloc, maker, name, value)?)?;
+        let draft = draft_of(alloc, maker, name, value)?;
+        drafts.push(draft)?;
     }
     Ok(drafts)
 }
@@ -112,14 +115,18 @@ fn reopen<P: Payload, M: Maker<P>>(
     let opening = stand_in(alloc, picture.limit())?;
     match Store::reopen(alloc, opening, snapshot, limits, maker) {
         Ok(store) => Ok(store),
-        Err(refused) => Err(ReviveFault::NotBegun {
-            why: match refused.why {
-                ReopenFault::HeapFull => RoomFault::HeapFull,
-                ReopenFault::OutOfMemory => RoomFault::OutOfMemory,
-                // There is a subject, and the limit is the snapshot's.
-                ReopenFault::NoSubject | ReopenFault::LimitDiffers => unreachable!(),
-            },
-        }),
+        Err(refused) => match refused.why {
+            ReopenFault::HeapFull => Err(ReviveFault::NotBegun {
+                why: RoomFault::HeapFull,
+            }),
+            ReopenFault::OutOfMemory => Err(ReviveFault::NotBegun {
+                why: RoomFault::OutOfMemory,
+            }),
+            // There is a subject.
+            ReopenFault::NoSubject => unreachable!(),
+            // The limit is the snapshot's.
+            ReopenFault::LimitDiffers => unreachable!(),
+        },
     }
 }
 
