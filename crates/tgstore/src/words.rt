@@ -79,18 +79,20 @@ fn options_of<'a>(matches: &ArgMatches<'a>) -> Result<Options<'a>, BadNumber>
     ensures asked { IfOk result (λ o. AreAsked (found_of matches.now) o.asked) }
     ensures in_range { IfOk result (λ o. AreInRange o.settings) }
 {
-    let settings = settings_of(matches)?;
     let asked = asked_of(matches)?;
-    Ok(Options {
-        settings,
-        race: matches.get_flag("race"),
-        entries: matches.get_flag("entries"),
-        why: matches.get_flag("why"),
-        strict: matches.get_flag("strict"),
-        stock: matches.get_str("stock").unwrap_or(""),
-        resume: matches.get_str("resume"),
-        asked,
-    })
+    match settings_of(matches) {
+        Ok(settings) => Ok(Options {
+            settings,
+            race: matches.get_flag("race"),
+            entries: matches.get_flag("entries"),
+            why: matches.get_flag("why"),
+            strict: matches.get_flag("strict"),
+            stock: matches.get_str("stock").unwrap_or(""),
+            resume: matches.get_str("resume"),
+            asked,
+        }),
+        Err(bad) => Err(bad),
+    }
 }
 
 // The numbers that were found in the words, and that a history has too.
@@ -114,7 +116,8 @@ fn number_asked(
     ensures { IfOk result (λ n. n ≡ number_if (one_text (found_of matches.now) name.now)) }
 {
     match matches.try_get_one::<u64>(name) {
-        Ok(found) => Ok(found),
+        Ok(None) => Ok(None),
+        Ok(Some(n)) => Ok(Some(n)),
         Err(_) => Err(BadNumber { name, most }),
     }
 }
