@@ -9,7 +9,7 @@ use Rattle.tg_entries.specs.declared.kept.HistoryStart.{HistoryStart}
 use Rattle.tg_entries.specs.declared.kept.HistoryStart.TheVariants.{Opened, Shown}
 use Rattle.tg_space.specs.SpaceTable.{BlockLimits}
 use Rattle.tg_space.specs.declared.room_fault.RoomFault.{RoomFault}
-use Rattle.tg_space.specs.declared.room_fault.RoomFault.TheVariants.{OutOfMemory, HeapFull}
+use Rattle.tg_space.specs.declared.room_fault.RoomFault.TheVariants.{HeapFull}
 use Rattle.tg_store.specs.Origin.{Origin, opened_by}
 use Rattle.tg_store.specs.Store.{StoreState, graph_of_store}
 use Rattle.tg_resume.specs.Room.{LacksRoom}
