@@ -1,5 +1,5 @@
 -- A run that goes on from the history of a file.
-use Rattle.std.proofs.Common.{◌≡◌, ◌∙◌, ◌≤◌, ◌+◌, ℕ, Bool, List, length, Option, Some, None, Result, Ok, Err, arith, refl, ap, subst, sym}
+use Rattle.std.proofs.Common.{◌≡◌, ◌∙◌, ◌≤◌, ◌+◌, ℕ, Bool, false, List, length, Option, Some, None, Result, Ok, Err, arith, refl, ap, subst, sym}
 use Rattle.std.specs.Prelude.{IfOk, IfSome}
 use Rattle.tg_text.specs.declared.answer.Answer.{Answer}
 use Rattle.tg_text.specs.declared.fault.ScriptFault.{ScriptFault}
