@@ -60,8 +60,9 @@ def cut(row: Row, size: int) -> Wanted:
     return Wanted(script, b"".join(replies), fault, 1 if part else 0)
 
 
-def run(row: Row, program: Path, given: bytes, words: Sequence[str] = ()) -> Ran:
-    """Runs the program on the row, with these words after its own, in a folder that has the files of the row alone."""
+def run(row: Row, program: Path, given: bytes, words: Sequence[str] = (), history: bytes | None = None) -> Ran:
+    """Runs the program on the row, with these words after its own, in a folder that has the files of the row alone. If a
+    history is given, it is in the place of the row's."""
     command = [str(program), *row.words, *words]
     if (row.folder / "memory").exists():
         command = [*LIMITED, str(int(row.named("memory", "")) + program.stat().st_size // 1024), *command]
@@ -71,6 +72,8 @@ def run(row: Row, program: Path, given: bytes, words: Sequence[str] = ()) -> Ran
             shutil.copytree(row.folder / "files", empty)
         else:
             empty.mkdir()
+        if history is not None:
+            (empty / "history").write_bytes(history)
         (Path(room) / "stdin").write_bytes(given)
         said = {"stdout": Path(room) / "stdout", "stderr": Path(room) / "stderr"}
         source = held.enter_context(opened(empty / row.named("stdin.from", f"{room}/stdin"), os.O_RDONLY))
@@ -141,6 +144,29 @@ def check_entries(row: Row, program: Path, auditor: Path) -> str | None:
         ("stderr", wanted.stderr, ran.stderr),
         ("entries", b"\n".join(entries), b"\n".join(written)),
         ("audit", answer, audit.stdout.splitlines(keepends=True)[0]),
+    )
+
+
+def check_resumed(row: Row, program: Path, auditor: Path) -> str | None:
+    """Runs the program on the row with --entries. The history with what it writes after it has to be a history that
+    tgaudit accepts, and from which another run goes on."""
+    wanted = Wanted.of(row)
+    ran = run(row, program, wanted.stdin, ["--entries"])
+    status = ("status", number(wanted.status), number(ran.status))
+    if row.status not in (0, 3):
+        return first_difference([row.name, "--entries"], program, status, ("stderr", wanted.stderr, ran.stderr))
+    text = (row.folder / "files/history").read_bytes() + ran.stdout
+    last = text.splitlines(keepends=True)[-1]
+    audit = subprocess.run([auditor], input=text, stdout=subprocess.PIPE, stderr=subprocess.STDOUT, check=False)
+    again = run(row, program, b"", ["--entries"], text)
+    return first_difference(
+        [row.name, "--entries"],
+        program,
+        status,
+        ("stderr", wanted.stderr, ran.stderr),
+        ("entries", b"\n".join(entries_of(wanted)), b"\n".join(entries_in(ran.stdout))),
+        ("audit", b"audit ok, %d entries\n" % int(last.split()[1]), audit.stdout.splitlines(keepends=True)[0]),
+        ("end of a run without lines", last, again.stdout),
     )
 
 

@@ -1,3 +1,4 @@
 pub mod WordLaws
 pub mod ServingLaws
 pub mod StrictLaws
+pub mod ResumedLaws

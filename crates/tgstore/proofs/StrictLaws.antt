@@ -53,7 +53,7 @@ saw_answers : (had on saw : Bool) (answers : List Answer) → had ≡ false → 
 saw_answers had false saw answers none seen = absurd cc
 saw_answers had true saw answers none seen = same_Some saw (had || list_any says_refusal answers) seen ∙ ap (λ (x : Bool). x || list_any says_refusal answers) none
 
-status_seen : (strict had on saw : Bool) (answers : List Answer) → had ≡ false → SeesAll (seen_if strict had) answers (seen_if on saw) → status_if strict saw ≡ status_if strict (list_any says_refusal answers)
+pub status_seen : (strict had on saw : Bool) (answers : List Answer) → had ≡ false → SeesAll (seen_if strict had) answers (seen_if on saw) → status_if strict saw ≡ status_if strict (list_any says_refusal answers)
 status_seen false had on saw answers none seen = refl
 status_seen true had on saw answers none seen = ap (status_if true) (saw_answers had on saw answers none seen)
 

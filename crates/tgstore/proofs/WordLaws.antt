@@ -9,7 +9,7 @@ use Rattle.clap.specs.declared.builder.arg.Arg.{Arg}
 use Rattle.clap.specs.declared.builder.command.Command.{Command}
 use Rattle.clap.specs.declared.parser.matches.Found.{Found}
 use Rattle.clap.proofs.WalkLemmas.{first_value-rows, one_text-rows}
-use Rattle.tgstore.specs.Words.{AreArgsOf, AreFound, AreSaid, IsFlag, bare_line, command_line, number_or, option_rules}
+use Rattle.tgstore.specs.Words.{AreArgsOf, AreAsked, AreFound, AreSaid, IsFlag, bare_line, command_line, number_if, number_or, option_rules}
 use Rattle.tgstore.specs.declared.settings.Options.{Options}
 
 pub now_or : (r : Option (Bor (List ℕ))) (d : Bor (List ℕ)) → (unwrap_or r d).now ≡ unwrap_or (option_map (λ s. s.now) r) d.now
@@ -17,8 +17,8 @@ now_or None d = refl
 now_or (Some x) d = refl
 
 -- what was found in the words is what they say
-pub said_of : (words : List (List ℕ)) (found : Found) (o : Options) → rows_of found ≡ matches_of command_line words → AreFound found o.settings → IsFlag (one_text found (codes "race")) o.race → IsFlag (one_text found (codes "entries")) o.entries → IsFlag (one_text found (codes "why")) o.why → IsFlag (one_text found (codes "strict")) o.strict → o.stock.now ≡ unwrap_or (first_value found (codes "stock")) [] → AreSaid words o
-said_of words found o rows numbers race entries why strict stock =
+pub said_of : (words : List (List ℕ)) (found : Found) (o : Options) → rows_of found ≡ matches_of command_line words → AreFound found o.settings → IsFlag (one_text found (codes "race")) o.race → IsFlag (one_text found (codes "entries")) o.entries → IsFlag (one_text found (codes "why")) o.why → IsFlag (one_text found (codes "strict")) o.strict → o.stock.now ≡ unwrap_or (first_value found (codes "stock")) [] → option_map (λ s. s.now) o.resume ≡ first_value found (codes "resume") → AreAsked found o.asked → AreSaid words o
+said_of words found o rows numbers race entries why strict stock resume asked =
     let number : (name : List ℕ) → one_text found name ≡ one_of name (matches_of command_line words) = λ name. one_text-rows found name ∙ ap (one_of name) rows in
     record {
       workers = numbers.workers ∙ ap (number_or 2) (number (codes "workers"));
@@ -31,6 +31,8 @@ said_of words found o rows numbers race entries why strict stock =
       why = subst (λ t. IsFlag t o.why) (number (codes "why")) why;
       strict = subst (λ t. IsFlag t o.strict) (number (codes "strict")) strict;
       stock = stock ∙ ap (λ t. unwrap_or t []) (first_value-rows found (codes "stock") ∙ ap (first_of (codes "stock")) rows);
+      resume = resume ∙ first_value-rows found (codes "resume") ∙ ap (first_of (codes "resume")) rows;
+      asked = (asked.workers ∙ ap number_if (number (codes "workers")), asked.vertices ∙ ap number_if (number (codes "vertices")));
     }
 
 -- the program with options of these rules

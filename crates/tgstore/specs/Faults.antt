@@ -4,6 +4,7 @@ use Rattle.tg_text.specs.declared.stock.StockFault.{StockFault}
 use Rattle.tg_text.specs.declared.stock.StockFault.TheVariants as stock
 use Rattle.tg_script.specs.Lines.{read_failures, write_failures}
 use Rattle.tg_threads.specs.Race.{race_read_failures, race_write_failures}
+use Rattle.tgstore.specs.declared.resuming.ResumeFault.TheVariants as resume
 use Rattle.tgstore.specs.declared.start.StartFault.{StartFault}
 use Rattle.tgstore.specs.declared.start.StartFault.TheVariants as start
 use Rattle.tgstore.specs.declared.stop.Stop.{Stop}
@@ -32,7 +33,12 @@ status_of_stop stop.HelpUnwritten = 1
 status_of_stop (stop.Start start.BadStock) = 2
 status_of_stop (stop.Start start.BadLimits) = 2
 status_of_stop (stop.Start start.StrictRace) = 2
+status_of_stop (stop.Start start.ResumedRace) = 2
 status_of_stop (stop.Start start.OutOfMemory) = 1
+status_of_stop (stop.Resume (resume.OtherWorkers asked has)) = 2
+status_of_stop (stop.Resume (resume.OtherVertices asked has)) = 2
+status_of_stop (stop.Resume (resume.Text fault)) = 1
+status_of_stop (stop.Resume (resume.Store fault)) = 1
 status_of_stop (stop.Script fault) = 1
 status_of_stop (stop.Race fault) = 1
 

@@ -1,6 +1,6 @@
 -- What the words of the command line say. How they are taken apart is clap's matter: behind the program's name `--NAME` takes
 -- the next word, `--NAME=TEXT` takes the text, `--race`, `--entries`, `--why` and `--strict` stand alone, and no option comes twice.
-use Rattle.std.specs.Prelude.{◌≡◌, ℕ, Bool, true, false, List, [], ◌∷◌, Option, Some, None, codes, unwrap_or}
+use Rattle.std.specs.Prelude.{◌≡◌, ℕ, Bool, true, false, List, [], ◌∷◌, Option, Some, None, codes, option_map, unwrap_or}
 use Rattle.std.specs.Option.{option_map_or}
 use Rattle.std.specs.Str.Parse.{digits_value, without_leading_plus}
 use Rattle.tg_word.specs.declared.TheConstants.{MOST_SPACE_BLOCKS}
@@ -12,6 +12,7 @@ use Rattle.clap.specs.declared.builder.action.ArgAction.TheVariants.{Set, SetTru
 use Rattle.clap.specs.declared.builder.value_parser.ValueParser.TheVariants.{Unsigned}
 use Rattle.clap.specs.declared.parser.matches.Found.{Found}
 use Rattle.tg_script.specs.declared.run_script.Settings.{Settings}
+use Rattle.tgstore.specs.declared.settings.Asked.{Asked}
 use Rattle.tgstore.specs.declared.settings.Options.{Options}
 
 -- an option with this action
@@ -53,6 +54,7 @@ option_rules =
     ∷ flag_rule (codes "entries")
     ∷ flag_rule (codes "why")
     ∷ flag_rule (codes "strict")
+    ∷ option_rule (codes "resume")
     ∷ []
 
 -- the program, which has a version
@@ -67,16 +69,22 @@ command_line =
     (with_rule
     (with_rule
     (with_rule
+    (with_rule
     (with_rule (with_rule (with_rule (with_rule bare_line (number_rule (codes "workers"))) (number_rule (codes "helpers"))) (number_rule (codes "vertices"))) (number_rule (codes "blocks")))
     (option_rule (codes "stock")))
     (flag_rule (codes "race")))
     (flag_rule (codes "entries")))
     (flag_rule (codes "why")))
-    (flag_rule (codes "strict"))
+    (flag_rule (codes "strict")))
+    (option_rule (codes "resume"))
 
 -- the number that a text writes, or this one where there is no text
 abbrev pub number_or : ℕ → Option (List ℕ) → ℕ
 number_or default text = option_map_or (λ digits. digits_value 10 (without_leading_plus digits)) text default
+
+-- the number that a text writes, if there is a text
+abbrev pub number_if : Option (List ℕ) → Option ℕ
+number_if text = option_map (λ digits. digits_value 10 (without_leading_plus digits)) text
 
 -- the number that an option has in the words, or this one where they don't have it
 abbrev pub number_said : List ℕ → ℕ → List (List ℕ) → ℕ
@@ -104,6 +112,9 @@ pub record AreSaid (words : List (List ℕ)) (o : Options) : Type 0 where
   pub why : IsFlag (one_of (codes "why") (matches_of command_line words)) o.why
   pub strict : IsFlag (one_of (codes "strict") (matches_of command_line words)) o.strict
   pub stock : o.stock.now ≡ text_said (codes "stock") words
+  pub resume : option_map (λ s. s.now) o.resume ≡ first_of (codes "resume") (matches_of command_line words)
+  pub asked : (o.asked.workers ≡ number_if (one_of (codes "workers") (matches_of command_line words)))
+      × (o.asked.max_vertices ≡ number_if (one_of (codes "vertices") (matches_of command_line words)))
 
 -- the numbers are those that were found in words which were taken apart; no space has more than 1,048,576 blocks
 pub record AreFound (found : Found) (s : Settings) : Type 0 where
@@ -112,3 +123,8 @@ pub record AreFound (found : Found) (s : Settings) : Type 0 where
   pub vertices : s.max_vertices ≡ number_or 1000000 (one_text found (codes "vertices"))
   pub blocks : s.limits.max_blocks ≡ number_or 4096 (one_text found (codes "blocks"))
   pub space_blocks : s.limits.space_blocks ≡ MOST_SPACE_BLOCKS
+
+-- the numbers that a history has too are those that were found
+pub record AreAsked (found : Found) (asked : Asked) : Type 0 where
+  pub workers : asked.workers ≡ number_if (one_text found (codes "workers"))
+  pub vertices : asked.max_vertices ≡ number_if (one_text found (codes "vertices"))

@@ -57,8 +57,11 @@ fn new_cells(alloc: Global, count: u64) -> Result<Vec<LawPayload>, AllocError>
     Ok(cells)
 }
 
-// A draft of a new box for each item. Fails only when out of memory.
-fn new_drafts(alloc: Global, items: &[StockItem]) -> Result<Vec<Draft<LawPayload>>, AllocError>
+/// A draft of a new box for each item. Fails only when out of memory.
+pub(crate) fn new_drafts(
+    alloc: Global,
+    items: &[StockItem],
+) -> Result<Vec<Draft<LawPayload>>, AllocError>
     ensures { IfOk result (λ drafts. drafts.items ≡ map value_of_item items.now) }
 {
     let mut drafts = Vec::with_capacity(alloc, items.len())?;

@@ -54,6 +54,15 @@ pub const STRICT: &str =
 and its reply. If there is such a line, the exit status is 3 in the place of 0.
 --race can't be given with it [default: status 0]";
 
+pub const RESUME: &str =
+    "Goes on from the history in FILE, and not from a new store. FILE has a text as
+--entries writes it, or the head of a part and the entries since. FILE decides
+who the workers are, what they store, and how many vertices may ever be made.
+If --workers or --vertices is given, its number has to be that of FILE. An
+edge line is a bad line. --stock names the boxes that are left. The output
+with --entries goes on with the text of FILE. --race can't be given with it
+[default: a new store]";
+
 pub const MANUAL: &str = "Script:
   A script has one command a line, and at most 1048576 bytes. A line has at most 256 bytes, and one space between words.
   X, Y and Z are names of vertices, and V is a number. RIGHTS are letters out of r (read), w (write), t (take), g (grant),
@@ -80,7 +89,8 @@ pub const MANUAL: &str = "Script:
     bytes     there is a capital letter, a byte order mark, or a carriage return before the end of the line
     numbers   a number has a sign or a leading zero, or is over 18446744073709551615
     rights    a right isn't one of the letters, comes twice, or is out of their order
-    edges     an edge comes after another line, has an end that is no worker, or goes from a worker to itself
+    edges     an edge comes after another line, has an end that is no worker, or goes from a worker to itself. With
+              --resume each edge line is a bad line
     end       the last line has no line feed
 
 Replies:
@@ -98,6 +108,17 @@ Replies:
   refused worker       X isn't a worker, or isn't one any more
   refused threads      a thread of a collection couldn't be started. Fewer are asked for by --helpers
 
+Going on:
+  With --resume FILE the script goes on from a history. FILE has its text, whose form tgaudit --help shows. It begins with
+  an opening, or with the head of a part. The active subjects at its end are the workers. With --entries the output has
+  the entries of the script, and the number of all entries of the text. If FILE can't be taken, no script is read.
+
+  --resume: line L: ..         line L of FILE isn't as asked. 'tgaudit < FILE' says what it has to be
+  --resume: no room ..         --blocks has fewer blocks than the history needs, or memory ran out
+  --resume: the snapshot ..    the head of the part has no line 'worker N', so nobody can act
+  --workers N differs ..       FILE names another number of workers at its head
+  --vertices N differs ..      FILE has another limit of vertices
+
 Exit status:
   0  the whole script was run
   1  the run stopped. Standard error has one line that says where and why
@@ -106,4 +127,9 @@ Exit status:
 
 Example:
   printf '0 create rw\\n0 list\\n' | tgstore --workers 1 --stock c
-  writes 'ok 1' and 'ok 1:rw'.";
+  writes 'ok 1' and 'ok 1:rw'.
+
+  tgstore --entries --stock c < one.txt > history.txt
+  tgstore --entries --stock c --resume history.txt < two.txt > more.txt
+  cat more.txt >> history.txt
+  runs two scripts after one another. history.txt then has the entries of both.";

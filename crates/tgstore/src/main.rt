@@ -6,9 +6,13 @@
 //! lines that were denied or refused (`strict`). Collections by several helpers run on threads (`on_threads`). A fault
 //! is one line on standard error and a status (`stop`). `obey` does all of it.
 //!
+//! A run with `--resume` goes on from the history of a file. `resuming` reads the file and makes the store, and
+//! `streams_on` runs the script on it.
+//!
 //! The definitions to believe are in `specs/`. `Words` says what the words ask for. `Ranges` and `Starts` say what is
 //! refused before any input is read. `Boxes` says what boxes begin with, `Serving` what a run reads and writes,
-//! `Faults` what the statuses are, and `Strict` which status a strict run has.
+//! `Faults` what the statuses are, and `Strict` which status a strict run has. `Resumed` says what a run reads and
+//! writes that goes on from a history.
 #![tactic(auto)]
 
 mod boxes;
@@ -17,11 +21,13 @@ mod host;
 mod noted;
 mod on_threads;
 mod program;
+mod resuming;
 mod serving;
 mod settings;
 mod start;
 mod stop;
 mod streams;
+mod streams_on;
 mod strict;
 mod words;
 

@@ -1,30 +1,36 @@
 //! All that the program does, from the words of the command line to its exit status.
-ghost use Rattle.std.specs.Prelude.{◌≡◌};
+ghost use Rattle.std.specs.Prelude.{◌≡◌, ◌≤◌, IfOk, length};
 ghost use Rattle.tgstore.specs.Faults.{exit_status};
 ghost use Rattle.tgstore.specs.Ranges.{AreInRange};
 
 use crate::host::RunHost;
 use crate::on_threads::OnThreads;
+use crate::resuming::{ResumeFault, go_on_from};
 use crate::settings::Options;
-use crate::start::{StartFault, prepare};
+use crate::start::{ResumedStart, StartFault, prepare, prepare_resumed};
 use crate::stop::{Failure, Stop};
 use crate::streams::serve_buffered;
+use crate::streams_on::serve_on;
 use crate::strict::REFUSED_LINES;
 use crate::words::options;
 use clap::Error;
 use clap::error::ErrorKind;
+use std::fs::Files;
 use std::io::{Eprint, Print, Read, Write};
 use std::rt::Env;
 use std::sync::Wait;
 use std::thread::Threads;
-use std::{env, io};
+use std::{env, fs, io};
+use tg_entries::TextFault;
+use tg_payload::LawPayload;
+use tg_script::RunOn;
 
 /// Does what the words of the command line ask for. It runs the reader's script and writes the replies to the writer,
 /// or prints the help. A fault is one line on standard error. A second line says why a line is bad, if this is asked
 /// for. Returns the exit status.
 pub fn obey<R, I, O>(rt: &R, reader: I, writer: O) -> u8
 where
-    R: AllocGlobal + Env + Print + Eprint + Threads + Wait + Sync,
+    R: AllocGlobal + Env + Files + Print + Eprint + Threads + Wait + Sync,
     I: Read + Drop,
     O: Write + Drop,
 {
@@ -64,7 +70,7 @@ pub fn exit_status(outcome: &Result<u8, Stop>) -> u8
 // Does what the words of the command line ask for, and answers the status.
 fn obey_words<R, I, O>(rt: &R, reader: I, writer: O) -> Result<u8, Failure>
 where
-    R: AllocGlobal + Env + Print + Eprint + Threads + Wait + Sync,
+    R: AllocGlobal + Env + Files + Print + Eprint + Threads + Wait + Sync,
     I: Read + Drop,
     O: Write + Drop,
 {
@@ -77,12 +83,15 @@ where
 // Does what the words ask for, which are text, and returns the status.
 fn obey_texts<R, I, O>(rt: &R, reader: I, writer: O, words: &[String]) -> Result<u8, Failure>
 where
-    R: AllocGlobal + Print + Eprint + Threads + Wait + Sync,
+    R: AllocGlobal + Files + Print + Eprint + Threads + Wait + Sync,
     I: Read + Drop,
     O: Write + Drop,
 {
     match options(rt.alloc(), words) {
-        Ok(options) => serve_streams(rt, reader, writer, &options),
+        Ok(options) => match options.resume {
+            None => serve_streams(rt, reader, writer, &options),
+            Some(path) => resume_streams(rt, reader, writer, &options, path),
+        },
         Err(error) => tell(rt, &error).map_err(Failure::from),
     }
 }
@@ -137,5 +146,68 @@ where
             }
         }
         Err(fault) => Err(Failure::from(Stop::Start(fault))),
+    }
+}
+
+// Runs the reader's script from the history of the file on, and writes what is asked for. Answers the status.
+fn resume_streams<R, I, O>(
+    rt: &R,
+    reader: I,
+    writer: O,
+    options: &Options,
+    path: &str,
+) -> Result<u8, Failure>
+where
+    R: AllocGlobal + Files + Eprint + Threads + Wait + Sync,
+    I: Read + Drop,
+    O: Write + Drop,
+{
+    match prepare_resumed(rt.alloc(), options) {
+        Ok(start) => match run_of(rt, &start, path) {
+            Ok(from) => serve_from(rt, reader, writer, &start, from),
+            Err(stop) => Err(Failure::from(stop)),
+        },
+        Err(fault) => Err(Failure::from(Stop::Start(fault))),
+    }
+}
+
+// What a run goes on from, whose history is in the file.
+fn run_of<R: AllocGlobal + Files>(
+    rt: &R,
+    start: &ResumedStart,
+    path: &str,
+) -> Result<RunOn<LawPayload>, Stop>
+    ensures place { IfOk result (λ from. from.skipped ≤ length from.store.entries) }
+{
+    match fs::open(rt, path) {
+        Ok(file) => go_on_from(rt.alloc(), file, start),
+        Err(error) => Err(Stop::Resume(ResumeFault::Text(TextFault::Stream(error)))),
+    }
+}
+
+// Runs the reader's script from there on. Answers the status.
+fn serve_from<R, I, O>(
+    rt: &R,
+    reader: I,
+    writer: O,
+    start: &ResumedStart,
+    from: RunOn<LawPayload>,
+) -> Result<u8, Failure>
+where
+    R: AllocGlobal + Eprint + Threads + Wait + Sync,
+    I: Read + Drop,
+    O: Write + Drop,
+    requires place { from.skipped ≤ length from.store.entries }
+{
+    let alloc = rt.alloc();
+    let collector = OnThreads::new(rt, alloc);
+    let host = RunHost {
+        rt,
+        alloc,
+        collector: &collector,
+    };
+    match serve_on(&host, reader, writer, start, from) {
+        Ok(ended) => ended.into_outcome(),
+        Err(stop) => Err(Failure::from(stop)),
     }
 }

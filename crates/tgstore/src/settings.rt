@@ -16,4 +16,15 @@ pub struct Options<'a> {
     pub strict: bool,
     /// The text of the stock, as it was written.
     pub stock: &'a str,
+    /// The file of the history that the run goes on from, if there is one.
+    pub resume: Option<&'a str>,
+    /// What the words ask of that history.
+    pub asked: Asked,
+}
+
+/// The numbers that the words give, if they give them. Those of a history that a run goes on from have to be the same.
+#[derive(Clone, Copy, Debug)]
+pub struct Asked {
+    pub workers: Option<u64>,
+    pub max_vertices: Option<u64>,
 }

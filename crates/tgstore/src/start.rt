@@ -1,12 +1,12 @@
 //! What a run starts from, and what is wrong with it before any input is read.
-ghost use Rattle.std.specs.Prelude.{◌≡◌, false, true, IfOk, IfErr};
+ghost use Rattle.std.specs.Prelude.{◌≡◌, false, true, IfOk, IfErr, OnOk};
 ghost use Rattle.tg_text.specs.Stock.{IsStockText};
 ghost use Rattle.tgstore.specs.Ranges.{AreInRange};
-ghost use Rattle.tgstore.specs.Starts.{MayHoldWorkers, IsReady, IsStartFault};
+ghost use Rattle.tgstore.specs.Starts.{MayHoldWorkers, IsReady, IsResumeFault, IsStartFault};
 
-use crate::settings::Options;
+use crate::settings::{Asked, Options};
 use std::alloc::{AllocError, Global};
-use tg_script::{Settings, StockFault, StockItem, read_stock};
+use tg_script::{Helpers, Limits, Settings, StockFault, StockItem, read_stock};
 use thiserror::Error;
 
 /// What a run is given beside its script.
@@ -25,6 +25,24 @@ pub struct Start {
     pub stock: Vec<StockItem>,
 }
 
+/// What a run that goes on from a history is given beside its script and the history.
+#[derive(Debug, Drop)]
+pub struct ResumedStart {
+    pub helpers: Helpers,
+    /// How many blocks the heap may have.
+    pub limits: Limits,
+    /// What the words ask of the history.
+    pub asked: Asked,
+    /// Whether entries are written in the place of replies.
+    pub entries: bool,
+    /// Whether it is said why a line is bad.
+    pub why: bool,
+    /// Whether a line that is denied or refused fails the run.
+    pub strict: bool,
+    /// The kinds of the boxes that are left to make, in order.
+    pub stock: Vec<StockItem>,
+}
+
 /// Why a run can't start. The first reason that holds is returned, in this order. Only memory may run out before the
 /// others are checked.
 #[derive(Clone, Copy, PartialEq, Eq, Debug, Error)]
@@ -38,6 +56,9 @@ pub enum StartFault {
     /// A race was to be strict.
     #[error("--strict doesn't see the lines of a race: give --strict or --race, and not both")]
     StrictRace,
+    /// A race was to go on from a history.
+    #[error("--race can't go on from a history: give --race or --resume, and not both")]
+    ResumedRace,
     /// There was no memory for the boxes.
     #[error("out of memory")]
     OutOfMemory,
@@ -93,6 +114,38 @@ pub fn prepare(alloc: Global, options: &Options) -> Result<Start, StartFault>
     Ok(Start {
         settings,
         race: options.race,
+        entries: options.entries,
+        why: options.why,
+        strict: options.strict,
+        stock,
+    })
+}
+
+/// What the options ask for, if the run goes on from a history. Else `BadStock`, then `ResumedRace`, exactly where they
+/// hold, or `OutOfMemory`. A bad stock is found whatever memory there is.
+pub fn prepare_resumed(alloc: Global, options: &Options) -> Result<ResumedStart, StartFault>
+    ensures numbers { IfOk result (λ start. (start.helpers ≡ options.now.settings.helpers) × (start.limits ≡ options.now.settings.limits)) }
+    ensures asked { IfOk result (λ start. start.asked ≡ options.now.asked) }
+    ensures entries { IfOk result (λ start. start.entries ≡ options.now.entries) }
+    ensures why { IfOk result (λ start. start.why ≡ options.now.why) }
+    ensures strict { IfOk result (λ start. start.strict ≡ options.now.strict) }
+    ensures stock { IfOk result (λ start. IsStockText options.now.stock.now start.stock.items) }
+    ensures no_race { OnOk result (options.now.race ≡ false) }
+    ensures refused { IfErr result (IsResumeFault options.now) }
+{
+    let stock = read_stock(alloc, options.stock.as_bytes())?;
+    if options.race {
+        return Err(StartFault::ResumedRace);
+    }
+    let Settings {
+        helpers,
+        limits,
+        ..
+    } = options.settings;
+    Ok(ResumedStart {
+        helpers,
+        limits,
+        asked: options.asked,
         entries: options.entries,
         why: options.why,
         strict: options.strict,

@@ -2,6 +2,7 @@
 ghost use Rattle.std.specs.Prelude.{◌≡◌};
 ghost use Rattle.tgstore.specs.Faults.{status_of_stop};
 
+use crate::resuming::ResumeFault;
 use crate::start::StartFault;
 use std::alloc::{AllocError, AllocFailed};
 use tg_script::ScriptFault;
@@ -9,7 +10,7 @@ use tg_threads::RaceFault;
 use thiserror::Error;
 
 /// Why the program ended before the whole script was run. It is the line on standard error, after the program's name.
-#[derive(Clone, Copy, PartialEq, Eq, Debug, Error)]
+#[derive(Clone, Copy, Debug, Error)]
 pub enum Stop {
     /// A word of the command line is no text.
     #[error("bad words")]
@@ -20,6 +21,9 @@ pub enum Stop {
     /// Nothing was read, since a run can't start.
     #[error(transparent)]
     Start(StartFault),
+    /// Nothing of the script was read, since the run can't go on from the history.
+    #[error(transparent)]
+    Resume(ResumeFault),
     /// The run met this fault.
     #[error(transparent)]
     Script(ScriptFault),
@@ -76,10 +80,17 @@ impl Stop {
     {
         match self {
             Stop::BadWords
-            | Stop::Start(StartFault::BadStock | StartFault::BadLimits | StartFault::StrictRace) =>
+            | Stop::Start(
+                StartFault::BadStock
+                | StartFault::BadLimits
+                | StartFault::StrictRace
+                | StartFault::ResumedRace,
+            )
+            | Stop::Resume(ResumeFault::OtherWorkers { .. } | ResumeFault::OtherVertices { .. }) =>
                 2,
             Stop::HelpUnwritten
             | Stop::Start(StartFault::OutOfMemory)
+            | Stop::Resume(ResumeFault::Text(_) | ResumeFault::Store(_))
             | Stop::Script(_)
             | Stop::Race(_) => 1,
         }

@@ -21,7 +21,7 @@ use std::thread::Threads;
 use tg_script::{Collector, Count, OfRead, OfWrite};
 
 /// How many bytes are read, and how many are written, at once.
-const BLOCK: usize = 65536;
+pub(crate) const BLOCK: usize = 65536;
 
 /// A run that is over: its reader with what is left, its writer with what was written, how it ended, with its exit
 /// status, and why a line was bad, where that was asked for.
@@ -93,12 +93,12 @@ pub(crate) fn serve_buffered<
     ))
 }
 
-// What counts how often a reader is asked and fails, and how often a writer fails.
+/// What counts how often a reader is asked and fails, and how often a writer fails.
 #[derive(Drop)]
-struct StreamBlanks {
-    asked: Blank,
-    read_failures: Blank,
-    write_failures: Blank,
+pub(crate) struct StreamBlanks {
+    pub asked: Blank,
+    pub read_failures: Blank,
+    pub write_failures: Blank,
 }
 
 // Serves where these ledgers name how often the reader is asked and fails, and how often the writer fails.

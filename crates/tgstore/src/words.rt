@@ -1,13 +1,13 @@
 //! The words of the command line.
-ghost use Rattle.std.specs.Prelude.{◌≡◌, ◌≤◌, [], IfOk, map, codes, unwrap_or};
+ghost use Rattle.std.specs.Prelude.{◌≡◌, ◌≤◌, [], IfOk, map, codes, option_map, unwrap_or};
 ghost use Rattle.tg_space.specs.declared.limits.TheConstants.{MOST_BLOCKS};
 ghost use Rattle.tg_word.specs.declared.TheConstants.{MOST_SPACE_BLOCKS};
 ghost use Rattle.clap.specs.Words.{app_of, first_value, found_of, one_text};
 ghost use Rattle.tgstore.specs.Ranges.{AreInRange};
-ghost use Rattle.tgstore.specs.Words.{AreFound, AreSaid, IsArgOf, IsFlag, bare_line, command_line, number_or, number_rule, option_rule, rule_with};
+ghost use Rattle.tgstore.specs.Words.{AreAsked, AreFound, AreSaid, IsArgOf, IsFlag, bare_line, command_line, number_if, number_or, number_rule, option_rule, rule_with};
 
 use crate::help;
-use crate::settings::Options;
+use crate::settings::{Asked, Options};
 use clap::error::ErrorKind;
 use clap::{Arg, ArgAction, ArgMatches, Command, Error};
 use std::alloc::{AllocError, Global};
@@ -75,8 +75,11 @@ fn options_of<'a>(matches: &ArgMatches<'a>) -> Result<Options<'a>, BadNumber>
     ensures why { IfOk result (λ o. IsFlag (one_text (found_of matches.now) (codes "why")) o.why) }
     ensures strict { IfOk result (λ o. IsFlag (one_text (found_of matches.now) (codes "strict")) o.strict) }
     ensures stock { IfOk result (λ o. o.stock.now ≡ unwrap_or (first_value (found_of matches.now) (codes "stock")) []) }
+    ensures resume { IfOk result (λ o. option_map (λ s. s.now) o.resume ≡ first_value (found_of matches.now) (codes "resume")) }
+    ensures asked { IfOk result (λ o. AreAsked (found_of matches.now) o.asked) }
     ensures in_range { IfOk result (λ o. AreInRange o.settings) }
 {
+    let asked = asked_of(matches)?;
     match settings_of(matches) {
         Ok(settings) => Ok(Options {
             settings,
@@ -85,8 +88,37 @@ fn options_of<'a>(matches: &ArgMatches<'a>) -> Result<Options<'a>, BadNumber>
             why: matches.get_flag("why"),
             strict: matches.get_flag("strict"),
             stock: matches.get_str("stock").unwrap_or(""),
+            resume: matches.get_str("resume"),
+            asked,
         }),
         Err(bad) => Err(bad),
+    }
+}
+
+// The numbers that were found in the words, and that a history has too.
+fn asked_of(matches: &ArgMatches) -> Result<Asked, BadNumber>
+    ensures { IfOk result (AreAsked (found_of matches.now)) }
+{
+    let workers = number_asked(matches, "workers", MAX_WORKERS)?;
+    let max_vertices = number_asked(matches, "vertices", MAX_VERTICES)?;
+    Ok(Asked {
+        workers,
+        max_vertices,
+    })
+}
+
+// The number of an option, if the words have it.
+fn number_asked(
+    matches: &ArgMatches,
+    name: &'static str,
+    most: u64,
+) -> Result<Option<u64>, BadNumber>
+    ensures { IfOk result (λ n. n ≡ number_if (one_text (found_of matches.now) name.now)) }
+{
+    match matches.try_get_one::<u64>(name) {
+        Ok(None) => Ok(None),
+        Ok(Some(n)) => Ok(Some(n)),
+        Err(_) => Err(BadNumber { name, most }),
     }
 }
 
@@ -146,6 +178,7 @@ fn command<'a>(alloc: Global) -> Result<Command<'a>, AllocError>
         arg_of(alloc, "entries", help::ENTRIES, ArgAction::SetTrue),
         arg_of(alloc, "why", help::WHY, ArgAction::SetTrue),
         arg_of(alloc, "strict", help::STRICT, ArgAction::SetTrue),
+        option_arg(alloc, "resume", "FILE", help::RESUME),
     ]?;
     match bare_command(alloc) {
         Ok(command) => command.args(options),
