@@ -88,6 +88,10 @@ PLACES = {
         ["match write_said Ok(()) Err(WriteFailed)"],
         "the line is written to memory, which fails for want of it alone",
     ),
+    ("tg_kept/src/read.rt", "text_named"): (
+        ["match write_end Ok(()) Err(WriteFailed)"],
+        "the text is written to memory, which fails for want of it alone",
+    ),
     ("tg_c/src/text.rt", "bytes_named"): (
         ["match written Ok(()) Err(WriteFailed)"],
         "what was written lies in memory, and writing fails for want of it alone",
@@ -152,6 +156,7 @@ NAMED = {
     ("tg_saved/src/text.rt", "read_lines", "u64::MAX"): "a line of the text each",
     ("tg_entries/src/stream.rt", "audit_lines", "u64::MAX"): "a line of the reader each",
     ("tg_entries/src/stream.rt", "skip_line", "u64::MAX"): "a piece of the line each",
+    ("tg_kept/src/read.rt", "add_lines", "while let Some(line)=reader.next()"): "a line of the file each",
     ("tg_plain/src/script.rt", "add_lines", "while let Some(line)=reading.next(source,&mut sink)?"): "a line of the reader each",
     ("tg_evac/src/copies.rt", "scan", "while next<claimer.len()"): "a cell that was won each",
     ("tg_evac/src/walk.rt", "each", "loop"): "a root each",
