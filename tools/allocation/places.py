@@ -88,6 +88,10 @@ PLACES = {
         ["match write_said Ok(()) Err(WriteFailed)"],
         "the line is written to memory, which fails for want of it alone",
     ),
+    ("tg_kept/src/read.rt", "text_named"): (
+        ["match write_end Ok(()) Err(WriteFailed)"],
+        "the text is written to memory, which fails for want of it alone",
+    ),
     ("tg_c/src/text.rt", "bytes_named"): (
         ["match written Ok(()) Err(WriteFailed)"],
         "what was written lies in memory, and writing fails for want of it alone",
@@ -153,6 +157,7 @@ NAMED = {
     ("tg_entries/src/stream.rt", "audit_lines", "u64::MAX"): "a line of the reader each",
     ("tg_entries/src/stream.rt", "skip_line", "u64::MAX"): "a piece of the line each",
     ("tgaudit/src/kept.rt", "audit_rest", "while let Some(text)=reader.next()"): "a line of the file each",
+    ("tg_kept/src/read.rt", "add_lines", "while let Some(line)=reader.next()"): "a line of the file each",
     ("tg_plain/src/script.rt", "add_lines", "while let Some(line)=reading.next(source,&mut sink)?"): "a line of the reader each",
     ("tg_past/src/edges.rt", "read", "while left>0"): "an entry each",
     ("tg_plain/src/input.rt", "read_front", "u64::MAX"): "a byte of the mark each",

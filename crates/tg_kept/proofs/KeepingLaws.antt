@@ -1,17 +1,20 @@
 -- What a file says of a history, and what a crash may leave of it.
-use Rattle.std.proofs.Common.{◌≡◌, ◌∙◌, ℕ, ◌≤◌, List, [], ◌∷◌, ◌++◌, drop, length, map, take, refl, sym, ap, subst, arith, append_assoc}
+use Rattle.std.proofs.Common.{◌≡◌, ◌∙◌, ℕ, List, [], ◌++◌, drop, map, take, refl, sym, ap, subst, arith, append_assoc}
 use Rattle.std.specs.Prelude.{IsTrue}
 use Rattle.std.proofs.lemmas.List.{append-nil, length-map, map-append, take-append-drop, take-map}
 use Rattle.sqlite_disk.specs.declared.Disk as disk
 use Rattle.tg_model.specs.Opened.{Plan}
 use Rattle.tg_journal.specs.declared.entry.Entry.{Entry}
-use Rattle.tg_store.specs.Store.{StoreState}
+use Rattle.tg_journal.specs.History.{IsLegal, graph_after}
+use Rattle.tg_journal.proofs.HistoryLaws.{IsLegal-cut}
+use Rattle.tg_store.specs.Origin.{Origin, start_at}
+use Rattle.tg_store.specs.Store.{IsFaithful, StoreState}
 use Rattle.tg_keep.specs.Files.{AwaitsBatch, HasPut, LeavesPart, first_texts}
 use Rattle.tg_keep.specs.Fronts.{AddsFront}
 use Rattle.tg_keep.specs.Lines.{history_of}
 use Rattle.tg_keep.specs.declared.file.LineFile.{LineFile}
 use Rattle.tg_keep.proofs.Closing.{synced_open}
-use Rattle.tg_kept.specs.Keeping.{HasBegunHistory, KeepsFront, KeepsStore, LeavesFrom, LeavesStore}
+use Rattle.tg_kept.specs.Keeping.{BeganByOpening, HasBegunHistory, KeepsFront, KeepsStore, LeavesFrom, LeavesStore}
 use Rattle.tg_kept.specs.Texts.{SaysFront, entry_line, kept_lines, opening_lines}
 
 -- more entries
@@ -44,10 +47,17 @@ keeps_all g place s before after given same front put left clean =
     ∙ ap (λ (es : List Entry). kept_lines s.opening.plan (take place s.entries) ++ map entry_line es) same
     ∙ lines_join s.opening.plan s.entries place
 
+-- the entries from a place on are legal, on the graph after those before it
+legal_from : (place : ℕ) (s : StoreState) → IsFaithful s → IsLegal (graph_after (start_at s.opening) (take place s.entries)) (drop place s.entries)
+legal_from place s faithful =
+    let first = start_at s.opening in
+    (IsLegal-cut first (take place s.entries) (drop place s.entries) (subst (IsLegal first) (sym (take-append-drop place s.entries)) faithful.legal)).1
+
 -- or they were put in part
-pub leaves_from : {D : Type 0} (g : disk.Ghosts D) (place : ℕ) (s : StoreState) (before : LineFile D) (after : D) (given : List Entry) → given ≡ drop place s.entries → KeepsFront g place s before
+pub leaves_from : {D : Type 0} (g : disk.Ghosts D) (place : ℕ) (s : StoreState) (before : LineFile D) (after : D) (given : List Entry) → given ≡ drop place s.entries → IsFaithful s → KeepsFront g place s before
     → LeavesPart g (map entry_line given) before.disk after → LeavesFrom g place s before.disk after
-leaves_from g place s before after given same front left = record {
+leaves_from g place s before after given same faithful front left = record {
+  legal = legal_from place s faithful;
   crash = λ clean c may.
       let P : List Entry → Type 0 = λ es. AddsFront (history_of (g.seen before.disk)) (map entry_line es) (history_of c) in
       says_front s.opening.plan (take place s.entries) (drop place s.entries) (history_of (g.seen before.disk)) (history_of c) (front.says (subst IsTrue left.calm clean)) (subst P same (left.crash clean c may));
@@ -75,3 +85,14 @@ leaves_nothing g texts file settled = record {
   unclosed = λ clean. synced_open g.seen g.may_leave file (settled.synced clean) settled.room;
   calm = refl;
 }
+
+-- ---- a store with the same history
+
+pub began_same : (old new : Origin) → new ≡ old → BeganByOpening old → BeganByOpening new
+began_same old new same began = let P : Origin → Type 0 = λ o. BeganByOpening o in subst P (sym same) began
+
+pub keeps_same : {D : Type 0} (g : disk.Ghosts D) (old new : StoreState) (file : LineFile D) → new.opening ≡ old.opening → new.entries ≡ old.entries → KeepsStore g old file → KeepsStore g new file
+keeps_same g old new file opening entries keeps clean =
+    keeps clean
+    ∙ ap (λ (o : Origin). kept_lines o.plan old.entries) (sym opening)
+    ∙ ap (λ (es : List Entry). kept_lines new.opening.plan es) (sym entries)

@@ -1,5 +1,9 @@
+pub mod DeedLaws
+pub mod FeedLaws
 pub mod KeepingLaws
 pub mod PrintLaws
+pub mod ReadLaws
+pub mod ReopenLaws
 pub mod RunLaws
 pub mod ServingLaws
 pub mod TextLaws

@@ -1,18 +1,16 @@
 -- Batches that are served one after the other, step by step.
-use Rattle.std.proofs.Common.{◌≡◌, ◌∙◌, ℕ, ◌+◌, ◌<◌, ◌≤◌, List, [], ◌∷◌, ◌++◌, get_or, length, take, refl, sym, ap, subst, arith, Some, Result}
-use Rattle.std.specs.Prelude.{IsTrue, slice_get}
+use Rattle.std.proofs.Common.{◌≡◌, ◌∙◌, ℕ, ◌+◌, ◌<◌, ◌≤◌, List, [], ◌∷◌, ◌++◌, get_or, length, take, sym, ap, subst, arith, Some, Result}
+use Rattle.std.specs.Prelude.{IsTrue}
 use Rattle.std.proofs.lemmas.List.{append-nil, take_all, take_more}
 use Rattle.std.proofs.lemmas.Option.{slice_get-get_or}
 use Rattle.sqlite_disk.specs.declared.Disk as disk
 use Rattle.tg_keep.specs.Files.{AwaitsBatch, SaysLeft}
-use Rattle.tg_keep.specs.Lines.{history_of}
 use Rattle.tg_keep.specs.declared.file.LineFile.{LineFile}
-use Rattle.tg_journal.specs.declared.entry.Entry.{Entry}
 use Rattle.tg_store.specs.Store.{StoreState}
 use Rattle.tg_store.specs.declared.batch.BatchFault.{BatchFault}
 use Rattle.tg_kept.specs.declared.run.Asked.{Asked}
 use Rattle.tg_kept.specs.Keeping.{LeavesStore, LosesCommands, ServesCommands}
-use Rattle.tg_kept.specs.Runs.{ComesBackWith, LeavesAnsweredBatches, LosesRun, ServesAll, next_batch, no_batch}
+use Rattle.tg_kept.specs.Runs.{ComesBackWith, LeavesAnsweredBatches, LosesRun, ServesAll, next_batch}
 use Rattle.tg_kept.specs.Texts.{SaysFront, kept_lines}
 
 -- the batch at i, of which a read of the list gives this

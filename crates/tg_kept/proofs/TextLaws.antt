@@ -1,11 +1,10 @@
 -- The texts of lines: what they have, and that they are the lines of a history's text.
-use Rattle.std.proofs.Common.{◌≡◌, ◌∙◌, ℕ, ◌+◌, ◌-◌, ◌<◌, ◌≤◌, get_or, true, false, List, [], ◌∷◌, ◌++◌, length, map, take, refl, sym, ap, subst, arith, append_assoc, length-append}
+use Rattle.std.proofs.Common.{◌≡◌, ◌∙◌, ℕ, ◌+◌, ◌-◌, ◌<◌, get_or, true, List, [], ◌∷◌, ◌++◌, length, map, take, refl, sym, ap, arith, append_assoc, length-append}
 use Rattle.std.specs.Prelude.{codes, decimal}
 use Rattle.std.specs.List.{flat_map, join_with_byte}
 use Rattle.std.proofs.lemmas.List.{map_more, take_at}
 use Rattle.std.proofs.lemmas.List.Concat.{flat_map-append}
 use Rattle.tg_rights.specs.RightSet.{RightSet, text_of}
-use Rattle.tg_model.specs.declared.command.Command.{Command}
 use Rattle.tg_model.specs.declared.command.Deed.{Deed}
 use Rattle.tg_model.specs.declared.command.Deed.TheVariants as deed
 use Rattle.tg_model.specs.declared.edge.Edge.{Edge}
@@ -29,8 +28,8 @@ use Rattle.tg_text.specs.Grammar.{line_text, words_of_arguments}
 use Rattle.tg_text.specs.Texts.{cause_text, denial_text, edge_text, reply_text, rule_text, value_text}
 use Rattle.tg_saved.specs.Values.{logged_text, more_text, numbers_text, payload_text}
 use Rattle.tg_saved.specs.Texts.{edge_line_text}
-use Rattle.tg_entries.specs.Texts.{deed_text, end_text, entry_text, history_text, limits_text, version_text, worker_text}
-use Rattle.tg_keep.specs.Lines.{is_entry, is_mark}
+use Rattle.tg_entries.specs.Texts.{deed_text, end_text, entry_text, head_text, history_text, limits_text, version_text, worker_text}
+use Rattle.tg_keep.specs.Lines.{is_entry}
 use Rattle.tg_kept.specs.declared.lines.Said.{Said}
 use Rattle.tg_kept.specs.declared.lines.Said.TheVariants as said
 use Rattle.tg_kept.specs.Said.{said_line, said_text}
@@ -145,25 +144,25 @@ digit_of_deed x (deed.Spawn label law state) =
     digit_before (line_text (line.Spawn x label)) (32 ∷ payload_text law state) (digit_before (decimal x) (32 ∷ (codes "spawn" ++ (32 ∷ text_of label))) (digit_of_number x))
 digit_of_deed x (deed.Plain command) = digit_of_command x (verb_and_arguments command).0 (verb_and_arguments command).1
 
-entry_may_be : (e : Entry) → is_entry (entry_line e) ≡ true
+pub entry_may_be : (e : Entry) → is_entry (entry_line e) ≡ true
 entry_may_be e =
     let front = deed_text e.worker e.deed in
     let back = codes " = " ++ reply_text e.reply in
     printed_is_entry (front ++ back) (printed_both front back (printed_deed e.worker e.deed) (printed_both (codes " = ") (reply_text e.reply) refl (printed_reply e.reply)))
     (digit_is_no_mark (front ++ back) (digit_before front back (digit_of_deed e.worker e.deed)))
 
-limits_may_be : (workers limit : ℕ) → is_entry (limits_line workers limit) ≡ true
+pub limits_may_be : (workers limit : ℕ) → is_entry (limits_line workers limit) ≡ true
 limits_may_be workers limit =
     let back = codes " " ++ decimal limit in
     printed_is_entry (limits_line workers limit)
     (printed_both (codes "opening ") (decimal workers ++ back) refl (printed_both (decimal workers) back (printed_number workers) (printed_both (codes " ") (decimal limit) refl (printed_number limit))))
     refl
 
-worker_may_be : (value : Value) → is_entry (worker_line value) ≡ true
+pub worker_may_be : (value : Value) → is_entry (worker_line value) ≡ true
 worker_may_be value =
     printed_is_entry (worker_line value) (printed_both (codes "worker ") (payload_text value.law value.state) refl (printed_payload value.law value.state)) refl
 
-edge_may_be : (edge : Edge) → is_entry (edge_line edge) ≡ true
+pub edge_may_be : (edge : Edge) → is_entry (edge_line edge) ≡ true
 edge_may_be edge =
     let end = decimal edge.to ++ (32 ∷ text_of edge.label) in
     printed_is_entry (edge_line edge)
@@ -180,7 +179,7 @@ said_may_be (said.Entry entry) = entry_may_be entry.now
 
 -- ---- lines and their line feeds
 
-entry_ends : (e : Entry) → entry_text e ≡ ended_line (entry_line e)
+pub entry_ends : (e : Entry) → entry_text e ≡ ended_line (entry_line e)
 entry_ends e =
     ap (λ l. deed_text e.worker e.deed ++ l) (sym (append_assoc (codes " = ") (reply_text e.reply) (10 ∷ [])))
     ∙ sym (append_assoc (deed_text e.worker e.deed) (codes " = " ++ reply_text e.reply) (10 ∷ []))
@@ -216,29 +215,36 @@ each_ends : {X : Type 0} (text line : X → List ℕ) → ((x : X) → text x �
 each_ends text line each [] = refl
 each_ends text line each (x ∷ xs) = ap (λ l. l ++ flat_map ended_line (map line xs)) (sym (each x)) ∙ ap (λ l. text x ++ l) (each_ends text line each xs)
 
--- the lines of an opening and of entries are those of the history's text
-pub lines_of_history : (p : Plan) (es : List Entry) → text_of_lines (opening_lines p ++ map entry_line es) (length es) ≡ history_text p es
-lines_of_history p es =
+-- the lines of an opening, with their line feeds
+opening_ends : (p : Plan) → flat_map ended_line (opening_lines p) ≡ (limits_text p.workers p.limit ++ flat_map worker_text p.values) ++ flat_map edge_line_text p.edges
+opening_ends p =
+    let limits = limits_text p.workers p.limit in
+    let workers = flat_map worker_text p.values in
+    let front : flat_map ended_line (limits_line p.workers p.limit ∷ map worker_line p.values) ≡ limits ++ workers =
+    ap (λ l. l ++ flat_map ended_line (map worker_line p.values)) (sym (limits_end p.workers p.limit)) ∙ ap (λ l. limits ++ l) (each_ends worker_text worker_line worker_ends p.values) in
+    flat_map-append ended_line (limits_line p.workers p.limit ∷ map worker_line p.values) (map edge_line p.edges)
+    ∙ ap (λ l. l ++ flat_map ended_line (map edge_line p.edges)) front
+    ∙ ap (λ l. (limits ++ workers) ++ l) (each_ends edge_line_text edge_line edge_ends p.edges)
+
+-- the head of a history's text has these lines after its first
+pub head_lines : (p : Plan) → head_text p ≡ version_text ++ flat_map ended_line (opening_lines p)
+head_lines p =
     let limits = limits_text p.workers p.limit in
     let workers = flat_map worker_text p.values in
     let edges = flat_map edge_line_text p.edges in
+    append_assoc (version_text ++ limits) workers edges
+    ∙ append_assoc version_text limits (workers ++ edges)
+    ∙ ap (λ l. version_text ++ l) (sym (append_assoc limits workers edges) ∙ sym (opening_ends p))
+
+-- the lines of an opening and of entries are those of the history's text
+pub lines_of_history : (p : Plan) (es : List Entry) → text_of_lines (opening_lines p ++ map entry_line es) (length es) ≡ history_text p es
+lines_of_history p es =
+    let lines = flat_map ended_line (opening_lines p) in
     let entries = flat_map entry_text es in
-    let front : flat_map ended_line (limits_line p.workers p.limit ∷ map worker_line p.values) ≡ limits ++ workers =
-    ap (λ l. l ++ flat_map ended_line (map worker_line p.values)) (sym (limits_end p.workers p.limit)) ∙ ap (λ l. limits ++ l) (each_ends worker_text worker_line worker_ends p.values) in
-    let head : flat_map ended_line (opening_lines p) ≡ (limits ++ workers) ++ edges =
-    flat_map-append ended_line (limits_line p.workers p.limit ∷ map worker_line p.values) (map edge_line p.edges)
-    ∙ ap (λ l. l ++ flat_map ended_line (map edge_line p.edges)) front
-    ∙ ap (λ l. (limits ++ workers) ++ l) (each_ends edge_line_text edge_line edge_ends p.edges) in
-    let all : flat_map ended_line (opening_lines p ++ map entry_line es) ≡ ((limits ++ workers) ++ edges) ++ entries =
-    flat_map-append ended_line (opening_lines p) (map entry_line es)
-    ∙ ap (λ l. l ++ flat_map ended_line (map entry_line es)) head
-    ∙ ap (λ l. ((limits ++ workers) ++ edges) ++ l) (each_ends entry_text entry_line entry_ends es) in
-    ap (λ l. (version_text ++ l) ++ end_text (length es))
-    (all ∙ append_assoc (limits ++ workers) edges entries ∙ append_assoc limits workers (edges ++ entries))
-    ∙ ap (λ l. l ++ end_text (length es))
-    (sym (append_assoc version_text limits (workers ++ (edges ++ entries)))
-    ∙ sym (append_assoc (version_text ++ limits) workers (edges ++ entries))
-    ∙ sym (append_assoc ((version_text ++ limits) ++ workers) edges entries))
+    let all : flat_map ended_line (opening_lines p ++ map entry_line es) ≡ lines ++ entries =
+    flat_map-append ended_line (opening_lines p) (map entry_line es) ∙ ap (λ l. lines ++ l) (each_ends entry_text entry_line entry_ends es) in
+    ap (λ l. (version_text ++ l) ++ end_text (length es)) all
+    ∙ ap (λ l. l ++ end_text (length es)) (sym (append_assoc version_text lines entries) ∙ ap (λ l. l ++ entries) (sym (head_lines p)))
 
 -- one line more
 pub line_more : {X : Type 0} (line : X → List ℕ) (xs : List X) (i : ℕ) (x : X) → i < length xs → x ≡ get_or xs i x → map line (take (i + 1) xs) ≡ map line (take i xs) ++ line x ∷ []

@@ -1,5 +1,5 @@
 -- A store and the file that keeps it, and what a batch of commands makes of both.
-use Rattle.std.specs.Prelude.{◌≡◌, ℕ, ◌≤◌, ◌++◌, Bool, true, false, List, [], length, map, take, drop, IsTrue, Option, Some, None, Result, Ok, Err}
+use Rattle.std.specs.Prelude.{◌≡◌, ℕ, ◌≤◌, ◌++◌, Bool, true, false, List, [], length, take, drop, IsTrue, Option, Some, None, Result, Ok, Err}
 use Rattle.sqlite_disk.specs.declared.Disk as disk
 use Rattle.tg_keep.specs.Files.{AwaitsBatch, LeavesOpen, MayBeWritten, first_texts}
 use Rattle.tg_keep.specs.Lines.{history_of}
@@ -8,9 +8,9 @@ use Rattle.tg_model.specs.declared.command.Command.{Command}
 use Rattle.tg_model.specs.Opened.{Plan}
 use Rattle.tg_snapshot.specs.Snapshot.{Saved}
 use Rattle.tg_journal.specs.declared.entry.Entry.{Entry}
-use Rattle.tg_journal.specs.History.{IsLegal}
+use Rattle.tg_journal.specs.History.{IsLegal, graph_after}
 use Rattle.tg_store.specs.Batch.{AreOfCommands, Applies, StopsBatch}
-use Rattle.tg_store.specs.Origin.{Origin}
+use Rattle.tg_store.specs.Origin.{Origin, start_at}
 use Rattle.tg_store.specs.Store.{StoreState, graph_of_store}
 use Rattle.tg_store.specs.declared.batch.BatchFault.{BatchFault}
 use Rattle.tg_kept.specs.Texts.{SaysFront, kept_lines, opening_lines}
@@ -44,9 +44,10 @@ pub record KeepsFront {D : Type 0} (g : disk.Ghosts D) (place : ℕ) (s : StoreS
   pub within : place ≤ length s.entries
   pub says : IsTrue (g.is_clean file.disk) → history_of (g.seen file.disk) ≡ kept_lines s.opening.plan (take place s.entries)
 
--- Each content that a crash may leave says the history of the store before a place, and a front of the entries from there on. It isn't
--- that of a closed file.
+-- Each content that a crash may leave says the history of the store before a place, and a front of the entries from there on, which are
+-- legal. It isn't that of a closed file.
 pub record LeavesFrom {D : Type 0} (g : disk.Ghosts D) (place : ℕ) (s : StoreState) (old new : D) : Type 0 where
+  pub legal : IsLegal (graph_after (start_at s.opening) (take place s.entries)) (drop place s.entries)
   pub crash : IsTrue (g.is_clean new) → (c : List ℕ) → g.may_leave new c → SaysFront s.opening.plan (take place s.entries) (drop place s.entries) (history_of c)
   pub unclosed : IsTrue (g.is_clean new) → LeavesOpen g.may_leave new
   pub calm : g.is_clean new ≡ g.is_clean old

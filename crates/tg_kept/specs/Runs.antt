@@ -1,12 +1,11 @@
 -- Batches that are served one after the other, until one fails and the machine crashes.
 use Rattle.std.specs.Prelude.{◌≡◌, ℕ, List, [], ◌∷◌, ◌++◌, take, slice_get, IsTrue, Some, Result}
 use Rattle.sqlite_disk.specs.declared.Disk as disk
-use Rattle.tg_keep.specs.Files.{AwaitsBatch, LeavesOpen}
+use Rattle.tg_keep.specs.Files.{AwaitsBatch}
 use Rattle.tg_keep.specs.Lines.{history_of}
 use Rattle.tg_keep.specs.declared.file.LineFile.{LineFile}
 use Rattle.tg_journal.specs.declared.entry.Entry.{Entry}
 use Rattle.tg_journal.specs.History.{IsLegal}
-use Rattle.tg_store.specs.Batch.{AreOfCommands}
 use Rattle.tg_store.specs.Store.{StoreState, graph_of_store}
 use Rattle.tg_store.specs.declared.batch.BatchFault.{BatchFault}
 use Rattle.tg_kept.specs.declared.run.Asked.{Asked}

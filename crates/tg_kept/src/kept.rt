@@ -15,8 +15,8 @@ use tg_store::{BatchFault, Store};
 /// of them. So each answer of the store reports only what is on the disk.
 #[derive(Drop)]
 pub struct Kept<D: Disk, P: Payload> {
-    store: Store<P>,
-    file: LineFile<D>,
+    pub(crate) store: Store<P>,
+    pub(crate) file: LineFile<D>,
     ghost opened: { BeganByOpening store.opening },
     ghost writable: { MayBeWritten D.Disk file },
     ghost keeps: { KeepsStore D.Disk store file },
@@ -103,8 +103,8 @@ impl<D: Disk, P: Payload> Kept<D, P> {
         self.file
     }
 
-    // Puts the entries of a store from a place on into its file, which says those before. Then the store is kept.
-    fn keep_from(
+    /// Puts the entries of a store from a place on into its file, which says those before. Then the store is kept.
+    pub(crate) fn keep_from(
         alloc: Global,
         store: Store<P>,
         mut file: LineFile<D>,

@@ -15,25 +15,37 @@
 //!
 //! A batch of commands is served by a call that takes the `Kept` and hands it back once the batch is on the disk. If
 //! the file fails, [`Lost`] comes back in its place. Then the store is gone, and the file has all that was answered
-//! before.
+//! before. [`Kept::open`] opens the file again, and its store has exactly the entries that the file says.
 //!
 //! | Call | What it does |
 //! |---|---|
 //! | [`Kept::begin`] | begins the file of a store that was just opened |
+//! | [`Kept::open`] | opens a file again, and makes the store that it says |
 //! | [`Kept::serve`] | takes a worker's commands, and puts the lines of their entries into the file |
 //! | [`Kept::serve_all`] | serves batch after batch |
+//! | [`Kept::make`], [`Kept::hand`] | make a vertex, or hand rights on, and put the lines into the file |
+//! | [`Kept::withdraw`], [`Kept::leave`] | withdraw rights, or have a worker leave, and put the lines into the file |
+//! | [`Kept::collect`], [`Kept::forget`] | collect the heap, and give up entries. Neither writes to the file |
 //! | [`Kept::store`] | lends the store, of which each entry is on the disk |
 //! | [`entry_lines`], [`opening_lines`] | the lines of entries, and of an opening, as a batch of `tg_keep` |
 #![tactic(auto)]
 
+mod deeds;
+mod fault;
 mod kept;
 pub mod laws;
 mod lines;
 mod lost;
 mod put;
+mod read;
+mod reopen;
+mod resting;
 mod run;
 
+pub use deeds::{Answered, AskedVertex};
+pub use fault::OpenFault;
 pub use kept::{Kept, Served};
 pub use lines::{entry_lines, opening_lines};
 pub use lost::Lost;
+pub use reopen::{NotOpened, Reopened};
 pub use run::{Asked, Returned};

@@ -2,6 +2,7 @@
 ghost use Rattle.std.specs.Prelude.{◌≡◌, ◌≢◌, ◌^◌, ◌≤◌, [], IfErr, IsTrue, OnOk, drop, length, map};
 ghost use Rattle.tg_keep.specs.Files.{HasPut, LeavesPart, MayBeWritten, MayUseDisk};
 ghost use Rattle.tg_keep.specs.Opened.{CausesFault};
+ghost use Rattle.tg_store.specs.Store.{IsFaithful};
 ghost use Rattle.tg_kept.specs.Keeping.{HasBegunHistory};
 ghost use Rattle.tg_kept.specs.Texts.{entry_line};
 
@@ -52,7 +53,8 @@ pub(crate) fn put_entries<D: Disk>(
 /// The entries of a store from a place on.
 pub(crate) fn entries_from<P: Payload>(store: &Store<P>, place: u64) -> &[Entry]
     requires { (store.now.handed ≤ place) × (place ≤ length store.now.entries) }
-    ensures { result.now ≡ drop place store.now.entries }
+    ensures entries { result.now ≡ drop place store.now.entries }
+    ensures faithful { IsFaithful store.now }
 {
     let journal = store.journal();
     &journal.entries()[(place - journal.start()) as usize..]

@@ -1,4 +1,4 @@
-use Rattle.std.proofs.Common.{◌≡◌, ◌∙◌, ap, length}
+use Rattle.std.proofs.Common.{◌∙◌, ap, length}
 use Rattle.std.proofs.lemmas.Result.{err_from_is_err_and}
 use Rattle.tg_kept.proofs.ServingLaws.{keeps_front, loses, serves_by, takes_commands}
 use Rattle.tg_kept.proofs.kept.Kept.serve.Goals as goal
