@@ -1,7 +1,6 @@
 -- A run that goes on from the history of a file.
-use Rattle.std.proofs.Common.{◌≡◌, ◌∙◌, ◌≤◌, ◌+◌, ℕ, Bool, false, List, length, Option, Some, None, Result, Ok, Err, arith, refl, ap, subst, sym}
+use Rattle.std.proofs.Common.{◌≡◌, ◌∙◌, ◌≤◌, ◌+◌, ℕ, Bool, false, List, length, Option, Some, None, Result, Ok, Err, arith, subst, sym}
 use Rattle.std.specs.Prelude.{IfOk, IfSome}
-use Rattle.tg_text.specs.declared.answer.Answer.{Answer}
 use Rattle.tg_text.specs.declared.fault.ScriptFault.{ScriptFault}
 use Rattle.tg_text.specs.declared.fault.ScriptFault.TheVariants as script
 use Rattle.tg_entries.specs.declared.kept.History.{History}

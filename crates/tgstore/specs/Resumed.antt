@@ -1,5 +1,5 @@
 -- What a run is that goes on from the history of a file.
-use Rattle.std.specs.Prelude.{◌≡◌, ◌≢◌, ◌-◌, ℕ, Bool, true, false, List, ◌++◌, length, map, Option, Some, None, Result, Ok, Err}
+use Rattle.std.specs.Prelude.{◌≡◌, ◌≢◌, ◌-◌, ℕ, Bool, List, ◌++◌, length, map, Option, Some, None, Result, Ok, Err}
 use Rattle.std.specs.List.{list_any}
 use Rattle.tg_journal.specs.declared.entry.Entry.{Entry}
 use Rattle.tg_text.specs.declared.answer.Answer.{Answer}

@@ -1,5 +1,5 @@
 -- What a strict run is, and its exit status.
-use Rattle.std.specs.Prelude.{◌≡◌, ℕ, Bool, true, false, List, Option, Some, None, if◌then◌else◌}
+use Rattle.std.specs.Prelude.{◌≡◌, ℕ, Bool, true, false, List, Option, Some, None}
 use Rattle.std.specs.List.{list_any}
 use Rattle.tg_text.specs.declared.answer.Answer.{Answer}
 use Rattle.tg_script.specs.Watching.{RanToEnd, IsWatched}
