@@ -10,7 +10,7 @@ use Rattle.tg_entries.specs.Kept.{IsTextOf}
 use Rattle.tg_revive.specs.Reviving.{IsRevived, entries_before}
 use Rattle.tg_script.specs.declared.going.RunOn.{RunOn}
 use Rattle.tg_script.specs.GoingOn.{GoesOn, GoneOn, scene_on, whole_text}
-use Rattle.tg_script.specs.Watching.{says_refusal}
+use Rattle.tg_text.specs.Refusing.{says_refusal}
 use Rattle.tgstore.specs.Boxes.{value_of_item}
 use Rattle.tgstore.specs.Strict.{status_if}
 use Rattle.tgstore.specs.declared.resuming.ResumeFault.{ResumeFault}
