@@ -29,8 +29,8 @@ use Rattle.tg_store.specs.Withdrawing.{withdrawing}
 use Rattle.tg_keep.specs.Files.{MayBeWritten}
 use Rattle.tg_keep.specs.Lines.{history_of}
 use Rattle.tg_keep.specs.declared.file.LineFile.{LineFile}
-use Rattle.tg_kept.specs.Deeds.{AreNoneOr, AreOfHand, AreOfMaking, Hands, Leaves, LosesDeed, Makes, Withdraws}
-use Rattle.tg_kept.specs.Keeping.{BeganByOpening, KeepsFront, KeepsStore, LeavesFrom}
+use Rattle.tg_kept.specs.Deeds.{AreNoneOr, AreOfHand, AreOfMaking, Hands, LeavesOrRefuses, LosesDeed, MakesOrRefuses, Withdraws}
+use Rattle.tg_kept.specs.Keeping.{BeganByOpening, KeepsUpTo, KeepsStore, LeavesFrom}
 use Rattle.tg_kept.specs.Texts.{SaysFront, kept_lines}
 
 -- The store has these entries of a deed more, and began where it began.
@@ -69,7 +69,7 @@ withdraw_adds target rights keep old new (Ok names) w =
     record { made = withdrawing (graph_of_store old) target rights keep; theirs = inr refl; entries = is.entries; opening = is.opening; handed = is.handed }
 withdraw_adds target rights keep old new (Err why) w = none_added (AreNoneOr (withdrawing (graph_of_store old) target rights keep)) old new (inl refl) w.refused
 
-pub leave_adds : (worker : ℕ) (old new : StoreState) (answer : Result ℕ ApplyFault) → Leaves worker old new answer → AddsEntries (AreNoneOr (leaving (graph_of_store old) worker)) old new
+pub leave_adds : (worker : ℕ) (old new : StoreState) (answer : Result ℕ ApplyFault) → LeavesOrRefuses worker old new answer → AddsEntries (AreNoneOr (leaving (graph_of_store old) worker)) old new
 leave_adds worker old new (Ok count) l =
     let is = l.left in
     record { made = leaving (graph_of_store old) worker; theirs = inr refl; entries = is.entries; opening = is.opening; handed = is.handed }
@@ -93,7 +93,7 @@ refused_adds worker deed old new create.NoSuchWorker vertices workers other = no
 refused_adds worker deed old new create.OutOfMemory vertices workers other = none_added (AreOfMaking worker deed) old new (inl refl) (other (λ e. cc) (λ e. cc))
 refused_adds worker deed old new create.HeapFull vertices workers other = none_added (AreOfMaking worker deed) old new (inl refl) (other (λ e. cc) (λ e. cc))
 
-pub make_adds : {P : Type 0} (kind : Making) (worker : ℕ) (label : RightSet) (draft : Value) (old new : StoreState) (answer : Result ℕ (CreateRefused P)) → Makes kind worker label draft old new answer
+pub make_adds : {P : Type 0} (kind : Making) (worker : ℕ) (label : RightSet) (draft : Value) (old new : StoreState) (answer : Result ℕ (CreateRefused P)) → MakesOrRefuses kind worker label draft old new answer
     → AddsEntries (AreOfMaking worker (deed_making kind label draft)) old new
 make_adds kind worker label draft old new (Ok name) m = record {
   made = (record { worker = worker; deed = deed_making kind label draft; reply = reply.Name name }) ∷ [];
@@ -115,7 +115,7 @@ module _ (AreTheirs : List Entry → Type 0) (old new : StoreState) (place : ℕ
   rest_is = ap (drop place) adds.entries ∙ ap (λ n. drop n (old.entries ++ adds.made)) from ∙ drop-append_seam old.entries adds.made
 
   -- the file of the first store has the front of the new one
-  pub keeps_old : {D : Type 0} (g : disk.Ghosts D) (file : LineFile D) → BeganByOpening old.opening → MayBeWritten g file → KeepsStore g old file → old.handed ≤ length old.entries → KeepsFront g place new file
+  pub keeps_old : {D : Type 0} (g : disk.Ghosts D) (file : LineFile D) → BeganByOpening old.opening → MayBeWritten g file → KeepsStore g old file → old.handed ≤ length old.entries → KeepsUpTo g place new file
   keeps_old g file opened writable keeps within =
       let P : Origin → Type 0 = λ o. BeganByOpening o in
       record {

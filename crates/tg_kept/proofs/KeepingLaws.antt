@@ -14,7 +14,7 @@ use Rattle.tg_keep.specs.Fronts.{AddsFront}
 use Rattle.tg_keep.specs.Lines.{history_of}
 use Rattle.tg_keep.specs.declared.file.LineFile.{LineFile}
 use Rattle.tg_keep.proofs.Closing.{synced_open}
-use Rattle.tg_kept.specs.Keeping.{BeganByOpening, HasBegunHistory, KeepsFront, KeepsStore, LeavesFrom, LeavesStore}
+use Rattle.tg_kept.specs.Keeping.{BeganByOpening, HasBegunHistory, KeepsUpTo, KeepsStore, LeavesFrom, LeavesStore}
 use Rattle.tg_kept.specs.Texts.{SaysFront, entry_line, kept_lines, opening_lines}
 
 -- more entries
@@ -39,7 +39,7 @@ says_front plan entries more before texts is front = (
 )
 
 -- the entries from a place on were put, and then the file says all
-pub keeps_all : {D : Type 0} (g : disk.Ghosts D) (place : ℕ) (s : StoreState) (before after : LineFile D) (given : List Entry) → given ≡ drop place s.entries → KeepsFront g place s before
+pub keeps_all : {D : Type 0} (g : disk.Ghosts D) (place : ℕ) (s : StoreState) (before after : LineFile D) (given : List Entry) → given ≡ drop place s.entries → KeepsUpTo g place s before
     → HasPut g (map entry_line given) before after → LeavesPart g (map entry_line given) before.disk after.disk → KeepsStore g s after
 keeps_all g place s before after given same front put left clean =
     put.texts clean
@@ -54,7 +54,7 @@ legal_from place s faithful =
     (IsLegal-cut first (take place s.entries) (drop place s.entries) (subst (IsLegal first) (sym (take-append-drop place s.entries)) faithful.legal)).1
 
 -- or they were put in part
-pub leaves_from : {D : Type 0} (g : disk.Ghosts D) (place : ℕ) (s : StoreState) (before : LineFile D) (after : D) (given : List Entry) → given ≡ drop place s.entries → IsFaithful s → KeepsFront g place s before
+pub leaves_from : {D : Type 0} (g : disk.Ghosts D) (place : ℕ) (s : StoreState) (before : LineFile D) (after : D) (given : List Entry) → given ≡ drop place s.entries → IsFaithful s → KeepsUpTo g place s before
     → LeavesPart g (map entry_line given) before.disk after → LeavesFrom g place s before.disk after
 leaves_from g place s before after given same faithful front left = record {
   legal = legal_from place s faithful;

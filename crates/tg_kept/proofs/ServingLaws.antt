@@ -15,7 +15,7 @@ use Rattle.sqlite_disk.specs.declared.Disk as disk
 use Rattle.tg_keep.specs.Files.{MayBeWritten}
 use Rattle.tg_keep.specs.Lines.{history_of}
 use Rattle.tg_keep.specs.declared.file.LineFile.{LineFile}
-use Rattle.tg_kept.specs.Keeping.{BeganByOpening, KeepsFront, KeepsStore, LeavesFrom, LosesCommands, ServesCommands}
+use Rattle.tg_kept.specs.Keeping.{BeganByOpening, KeepsUpTo, KeepsStore, LeavesFrom, LosesCommands, ServesCommands}
 use Rattle.tg_kept.specs.Texts.{SaysFront, kept_lines}
 
 -- The store has these entries more, which the first commands made.
@@ -70,7 +70,7 @@ module _ (worker : ℕ) (commands : List Command) (old new : StoreState) (place 
   rest_is = ap (drop place) taken.entries ∙ ap (λ n. drop n (old.entries ++ taken.made)) from ∙ drop-append_seam old.entries taken.made
 
   -- the file of the first store has the front of the new one
-  pub keeps_front : {D : Type 0} (g : disk.Ghosts D) (file : LineFile D) → BeganByOpening old.opening → MayBeWritten g file → KeepsStore g old file → old.handed ≤ length old.entries → KeepsFront g place new file
+  pub keeps_front : {D : Type 0} (g : disk.Ghosts D) (file : LineFile D) → BeganByOpening old.opening → MayBeWritten g file → KeepsStore g old file → old.handed ≤ length old.entries → KeepsUpTo g place new file
   keeps_front g file opened writable keeps within =
       let P : Origin → Type 0 = λ o. BeganByOpening o in
       record {

@@ -32,7 +32,7 @@ use Rattle.tg_keep.specs.Lines.{history_of}
 use Rattle.tg_kept.specs.Texts.{SaysFront}
 
 -- A worker asked for a vertex.
-pub record Makes {P : Type 0} (kind : Making) (worker : ℕ) (label : RightSet) (draft : Value) (old new : StoreState) (answer : Result ℕ (CreateRefused P)) : Type 0 where
+pub record MakesOrRefuses {P : Type 0} (kind : Making) (worker : ℕ) (label : RightSet) (draft : Value) (old new : StoreState) (answer : Result ℕ (CreateRefused P)) : Type 0 where
   pub entry : IfOk answer (λ name. Enters old new worker (deed_making kind label draft) (reply.Name name))
   pub made : IfOk answer (IsMadeFor (deed_making kind label draft) worker label draft old new)
   pub refusals : MayRefuse (deed_making kind label draft) worker draft old new answer
@@ -56,7 +56,7 @@ pub record Withdraws {A E : Type 0} (target : ℕ) (rights : RightSet) (keep : L
   pub refused : OnErr answer (IsUnchanged old new)
 
 -- A worker was to leave.
-pub record Leaves (worker : ℕ) (old new : StoreState) (answer : Result ℕ ApplyFault) : Type 0 where
+pub record LeavesOrRefuses (worker : ℕ) (old new : StoreState) (answer : Result ℕ ApplyFault) : Type 0 where
   pub left : OnOk answer (HasLeft worker old new)
   pub count : (g : ProtectionGraph) → StandsFor old g → IfOk answer (λ count. count ≡ length (listing_of g.label g.made worker))
   pub no_such_worker : (g : ProtectionGraph) → StandsFor old g → (answer ≡ Err apply.NoSuchWorker) ↔ (¬ IsSubject g worker)

@@ -37,7 +37,7 @@ abbrev pub LeavesStore : {D : Type 0} → disk.Ghosts D → StoreState → D →
 LeavesStore g s disk = IsTrue (g.is_clean disk) → (c : List ℕ) → g.may_leave disk c → history_of c ≡ kept_lines s.opening.plan s.entries
 
 -- The file says the history of the store before a place, and may be written. The store holds its entries from there on.
-pub record KeepsFront {D : Type 0} (g : disk.Ghosts D) (place : ℕ) (s : StoreState) (file : LineFile D) : Type 0 where
+pub record KeepsUpTo {D : Type 0} (g : disk.Ghosts D) (place : ℕ) (s : StoreState) (file : LineFile D) : Type 0 where
   pub opened : BeganByOpening s.opening
   pub writable : MayBeWritten g file
   pub held : s.handed ≤ place

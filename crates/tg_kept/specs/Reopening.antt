@@ -11,8 +11,8 @@ use Rattle.tg_revive.specs.Reviving.{IsReviveFault}
 use Rattle.tg_revive.specs.declared.fault.ReviveFault.{ReviveFault}
 use Rattle.tg_keep.specs.Lines.{file_texts, history_of}
 use Rattle.tg_keep.specs.Opened.{MayOpen, RefusesFile, has_first_text}
-use Rattle.tg_kept.specs.declared.fault.OpenFault.{OpenFault}
-use Rattle.tg_kept.specs.declared.fault.OpenFault.TheVariants as fault
+use Rattle.tg_kept.specs.declared.fault.KeptOpenFault.{KeptOpenFault}
+use Rattle.tg_kept.specs.declared.fault.KeptOpenFault.TheVariants as fault
 use Rattle.tg_kept.specs.Keeping.{BeganByOpening}
 use Rattle.tg_kept.specs.Texts.{kept_lines, text_of_lines}
 
@@ -44,7 +44,7 @@ pub record HasNoStore (bytes : List ℕ) (limits : BlockLimits) (why : ReviveFau
   pub reason : IsReviveFault (start.Opened plan) entries limits why
 
 -- why no store goes on from a file with these bytes
-abbrev pub RefusesOpening : List ℕ → BlockLimits → OpenFault → Type 0
+abbrev pub RefusesOpening : List ℕ → BlockLimits → KeptOpenFault → Type 0
 RefusesOpening bytes limits (fault.File why) = RefusesFile bytes why
 RefusesOpening bytes limits (fault.Text why) = MayOpen bytes
 RefusesOpening bytes limits (fault.Store why) = HasNoStore bytes limits why

@@ -6,7 +6,7 @@ ghost use Rattle.tg_model.specs.Making.{deed_making};
 ghost use Rattle.tg_store.specs.Leaving.{leaving};
 ghost use Rattle.tg_store.specs.Store.{graph_of_store};
 ghost use Rattle.tg_store.specs.Withdrawing.{withdrawing};
-ghost use Rattle.tg_kept.specs.Deeds.{AreNoneOr, AreOfHand, AreOfMaking, Hands, Leaves, LosesDeed, Makes, Withdraws};
+ghost use Rattle.tg_kept.specs.Deeds.{AreNoneOr, AreOfHand, AreOfMaking, Hands, LeavesOrRefuses, LosesDeed, MakesOrRefuses, Withdraws};
 ghost use Rattle.tg_kept.specs.Keeping.{LeavesStore};
 
 use crate::kept::Kept;
@@ -39,7 +39,7 @@ pub struct AskedVertex<P: Payload> {
 }
 
 impl<D: Disk, P: Payload> Kept<D, P> {
-    /// Makes a vertex, as [`Store::make`](tg_store::Store::make) does. Then puts the lines of the entries into the
+    /// MakesOrRefuses a vertex, as [`Store::make`](tg_store::Store::make) does. Then puts the lines of the entries into the
     /// file, by one write and one sync, and answers.
     ///
     /// `Lost` is as in [`Kept::serve`]. The draft is dropped then.
@@ -48,7 +48,7 @@ impl<D: Disk, P: Payload> Kept<D, P> {
         alloc: Global,
         asked: AskedVertex<P>,
     ) -> Result<Answered<D, P, Result<u64, CreateRefused<P>>>, Lost<D>>
-        ensures made { IfOk result (λ done. Makes asked.kind asked.worker asked.label asked.draft self.store done.kept.store done.answer) }
+        ensures made { IfOk result (λ done. MakesOrRefuses asked.kind asked.worker asked.label asked.draft self.store done.kept.store done.answer) }
         ensures left { IfOk result (λ done. LeavesStore D.Disk done.kept.store done.kept.file.disk) }
         ensures calm { IfOk result (λ done. D.is_clean done.kept.file.disk ≡ D.is_clean self.file.disk) }
         ensures lost { IfErr result (λ lost. LosesDeed D.Disk (AreOfMaking asked.worker (deed_making asked.kind asked.label asked.draft)) self.store self.file.disk lost.disk) }
@@ -116,7 +116,7 @@ impl<D: Disk, P: Payload> Kept<D, P> {
         alloc: Global,
         worker: u64,
     ) -> Result<Answered<D, P, Result<u64, ApplyFault>>, Lost<D>>
-        ensures departed { IfOk result (λ done. Leaves worker self.store done.kept.store done.answer) }
+        ensures departed { IfOk result (λ done. LeavesOrRefuses worker self.store done.kept.store done.answer) }
         ensures left { IfOk result (λ done. LeavesStore D.Disk done.kept.store done.kept.file.disk) }
         ensures calm { IfOk result (λ done. D.is_clean done.kept.file.disk ≡ D.is_clean self.file.disk) }
         ensures lost { IfErr result (λ lost. LosesDeed D.Disk (AreNoneOr (leaving (graph_of_store self.store) worker)) self.store self.file.disk lost.disk) }

@@ -6,7 +6,7 @@ use thiserror::Error;
 
 /// Why no store goes on from a file.
 #[derive(Clone, Copy, Debug, Error)]
-pub enum OpenFault {
+pub enum KeptOpenFault {
     /// The file wasn't opened: a call of the disk failed, memory ran out, the file is no kept file, or it is damaged.
     #[error("{0}")]
     File(FileFault),
@@ -19,35 +19,35 @@ pub enum OpenFault {
     Store(ReviveFault),
 }
 
-impl From<FileFault> for OpenFault {
+impl From<FileFault> for KeptOpenFault {
     ghost use Rattle.std.specs.Prelude.{◌≡◌};
-    ghost use Rattle.tg_kept.specs.declared.fault.OpenFault.TheVariants.{File};
+    ghost use Rattle.tg_kept.specs.declared.fault.KeptOpenFault.TheVariants.{File};
 
     ghost from_gives = { λ why fault. fault ≡ File why };
 
-    fn from(why: FileFault) -> OpenFault {
-        OpenFault::File(why)
+    fn from(why: FileFault) -> KeptOpenFault {
+        KeptOpenFault::File(why)
     }
 }
 
-impl From<TextFault> for OpenFault {
+impl From<TextFault> for KeptOpenFault {
     ghost use Rattle.std.specs.Prelude.{◌≡◌};
-    ghost use Rattle.tg_kept.specs.declared.fault.OpenFault.TheVariants.{Text};
+    ghost use Rattle.tg_kept.specs.declared.fault.KeptOpenFault.TheVariants.{Text};
 
     ghost from_gives = { λ why fault. fault ≡ Text why };
 
-    fn from(why: TextFault) -> OpenFault {
-        OpenFault::Text(why)
+    fn from(why: TextFault) -> KeptOpenFault {
+        KeptOpenFault::Text(why)
     }
 }
 
-impl From<ReviveFault> for OpenFault {
+impl From<ReviveFault> for KeptOpenFault {
     ghost use Rattle.std.specs.Prelude.{◌≡◌};
-    ghost use Rattle.tg_kept.specs.declared.fault.OpenFault.TheVariants.{Store};
+    ghost use Rattle.tg_kept.specs.declared.fault.KeptOpenFault.TheVariants.{Store};
 
     ghost from_gives = { λ why fault. fault ≡ Store why };
 
-    fn from(why: ReviveFault) -> OpenFault {
-        OpenFault::Store(why)
+    fn from(why: ReviveFault) -> KeptOpenFault {
+        KeptOpenFault::Store(why)
     }
 }

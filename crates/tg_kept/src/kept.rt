@@ -37,7 +37,7 @@ impl<D: Disk, P: Payload> Kept<D, P> {
     ghost use Rattle.tg_keep.specs.Opened.{is_of_disk};
     ghost use Rattle.tg_keep.specs.declared.fault.FileFault.TheVariants as FileFault;
     ghost use Rattle.tg_store.specs.declared.batch.TheConstants.{MOST_BATCH};
-    ghost use Rattle.tg_kept.specs.Keeping.{IsFirst, KeepsFront, LeavesFrom, LeavesStore, LosesCommands, ServesCommands};
+    ghost use Rattle.tg_kept.specs.Keeping.{IsFirst, KeepsUpTo, LeavesFrom, LeavesStore, LosesCommands, ServesCommands};
 
     /// Begins the file of a store that was just opened, and that has no entry yet. The disk's file is empty. After `Ok`
     /// it says the lines of the opening, and they are on the disk. A crash before that may leave anything, so a program
@@ -110,7 +110,7 @@ impl<D: Disk, P: Payload> Kept<D, P> {
         mut file: LineFile<D>,
         place: u64,
     ) -> Result<Kept<D, P>, Lost<D>>
-        requires { KeepsFront D.Disk place store file }
+        requires { KeepsUpTo D.Disk place store file }
         ensures store { IfOk result (λ kept. kept.store ≡ store) }
         ensures left { IfOk result (λ kept. LeavesStore D.Disk kept.store kept.file.disk) }
         ensures calm { IfOk result (λ kept. D.is_clean kept.file.disk ≡ D.is_clean file.disk) }

@@ -43,9 +43,9 @@ mod resting;
 mod run;
 
 pub use deeds::{Answered, AskedVertex};
-pub use fault::OpenFault;
+pub use fault::KeptOpenFault;
 pub use kept::{Kept, Served};
 pub use lines::{entry_lines, opening_lines};
 pub use lost::Lost;
 pub use reopen::{NotOpened, Reopened};
-pub use run::{Asked, Returned};
+pub use run::{AskedBatch, Returned};

@@ -6,7 +6,7 @@ ghost use Rattle.tg_keep.specs.Opened.{HasOpened};
 ghost use Rattle.tg_kept.specs.Keeping.{LeavesStore};
 ghost use Rattle.tg_kept.specs.Reopening.{OpensAs, RefusesOpening};
 
-use crate::fault::OpenFault;
+use crate::fault::KeptOpenFault;
 use crate::kept::Kept;
 use crate::read::read_lines;
 use sqlite_disk::Disk;
@@ -28,12 +28,12 @@ pub struct Reopened<D: Disk, P: Payload> {
 #[derive(Drop)]
 pub struct NotOpened<D: Disk> {
     pub disk: D,
-    pub why: OpenFault,
+    pub why: KeptOpenFault,
 }
 
 // The store of a file that was opened.
 #[derive(Drop)]
-struct Found<P: Payload> {
+struct MadeAgain<P: Payload> {
     store: Store<P>,
     was_closed: bool,
 }
@@ -44,7 +44,7 @@ fn open_store<D: Disk, P: Payload, M: Maker<P>>(
     file: &mut LineFile<D>,
     limits: Limits,
     maker: &mut M,
-) -> Result<Found<P>, OpenFault>
+) -> Result<MadeAgain<P>, KeptOpenFault>
     requires { MayUseDisk D.Disk file.old.disk }
     ensures opened { OnOk result (HasOpened D.Disk file.old file.new) }
     ensures store { IfOk result (λ found. OpensAs (D.is_clean file.new.disk) (D.seen file.old.disk) limits found.store) }
@@ -56,7 +56,7 @@ fn open_store<D: Disk, P: Payload, M: Maker<P>>(
     let opened = file.open(alloc)?;
     let history = read_lines(alloc, &opened.bytes)?;
     let store = store_after(alloc, history, limits, maker)?;
-    Ok(Found {
+    Ok(MadeAgain {
         store,
         was_closed: opened.was_closed,
     })
@@ -75,11 +75,11 @@ impl<D: Disk, P: Payload> Kept<D, P> {
     /// The refusals, in the order in which they are looked for. The store isn't made, or is dropped. A refusal that is
     /// not of the disk leaves a file that says what it said:
     ///
-    /// - [`OpenFault::File`], as [`LineFile::open`] refuses a file: a call of the disk failed, memory ran out, the file
+    /// - [`KeptOpenFault::File`], as [`LineFile::open`] refuses a file: a call of the disk failed, memory ran out, the file
     ///   is no kept file, or a line is damaged.
-    /// - [`OpenFault::Text`], with the first line that is none of a legal history. Its reply isn't that of the rules,
+    /// - [`KeptOpenFault::Text`], with the first line that is none of a legal history. Its reply isn't that of the rules,
     ///   for example. A mark has to have the number of the entries before it. Or memory ran out.
-    /// - [`OpenFault::Store`], if there is no room in the heap for the store. It has the place of the entry.
+    /// - [`KeptOpenFault::Store`], if there is no room in the heap for the store. It has the place of the entry.
     pub fn open<M: Maker<P>>(
         alloc: Global,
         disk: D,
@@ -97,7 +97,7 @@ impl<D: Disk, P: Payload> Kept<D, P> {
         let mut file = LineFile::new(disk);
         match open_store(alloc, &mut file, limits, maker) {
             Ok(found) => {
-                let Found { store, was_closed } = found;
+                let MadeAgain { store, was_closed } = found;
                 let kept = Kept { store, file };
                 Ok(Reopened { kept, was_closed })
             }

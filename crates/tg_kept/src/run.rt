@@ -9,7 +9,7 @@ use tg_payload::Payload;
 
 /// A worker's commands, as [`Kept::serve`] takes them.
 #[derive(Clone, Copy)]
-pub struct Asked<'a> {
+pub struct AskedBatch<'a> {
     pub worker: u64,
     pub commands: &'a [Command],
 }
@@ -24,17 +24,17 @@ pub struct Returned<D: Disk> {
 impl<D: Disk, P: Payload> Kept<D, P> {
     ghost use Rattle.std.specs.Prelude.{◌≡◌, IfOk, IfErr, OnOk, length};
     ghost use Rattle.tg_kept.specs.Keeping.{LeavesStore};
-    ghost use Rattle.tg_kept.specs.Runs.{LeavesAnsweredBatches, LosesRun, ServesAll};
+    ghost use Rattle.tg_kept.specs.Runs.{LeavesAnsweredBatches, LosesRun, ServesInTurn};
 
     /// Serves batch after batch, as [`Kept::serve`] does, and counts in `answered` how many were answered. If a batch
     /// is lost, a crash leaves all entries of the batches that were answered, and a front of those of the lost one.
     pub fn serve_all(
         self,
         alloc: Global,
-        batches: &[Asked],
+        batches: &[AskedBatch],
         answered: &mut usize,
     ) -> Result<Kept<D, P>, Lost<D>>
-        ensures served { IfOk result (λ kept. ServesAll batches.now self.store kept.store) }
+        ensures served { IfOk result (λ kept. ServesInTurn batches.now self.store kept.store) }
         ensures all { OnOk result (answered.new ≡ length batches.now) }
         ensures left { IfOk result (λ kept. LeavesStore D.Disk kept.store kept.file.disk) }
         ensures calm { IfOk result (λ kept. D.is_clean kept.file.disk ≡ D.is_clean self.file.disk) }
@@ -50,7 +50,7 @@ impl<D: Disk, P: Payload> Kept<D, P> {
     }
 
     // Serves batch after batch, and returns the disk.
-    fn serve_on(self, alloc: Global, batches: &[Asked], answered: &mut usize) -> D
+    fn serve_on(self, alloc: Global, batches: &[AskedBatch], answered: &mut usize) -> D
         ensures { LeavesAnsweredBatches D.Disk batches.now answered.new self.store result }
     {
         match self.serve_all(alloc, batches, answered) {
@@ -70,7 +70,7 @@ impl<D: Crash, P: Payload> Kept<D, P> {
     pub fn serve_until_crash(
         self,
         alloc: Global,
-        batches: &[Asked],
+        batches: &[AskedBatch],
         answered: &mut usize,
     ) -> Result<Returned<D>, Lost<D>>
         ensures back { IfOk result (λ returned. ComesBackWith D.Disk batches.now answered.new self.store returned.file) }

@@ -29,7 +29,7 @@ use Rattle.tg_resume.specs.Resuming as resuming
 use Rattle.tg_resume.specs.Resuming.{HasNoRoom, IsHalted, Resumes}
 use Rattle.tg_resume.specs.declared.part.Halted.{Halted}
 use Rattle.tg_resume.specs.declared.part.Halted.TheVariants as halted
-use Rattle.tg_revive.specs.Reviving.{IsBadAt, IsCrowdedOut, IsOriginOf, IsRevived, IsReviveFault, entries_before, fault_of_halted, graph_of_start}
+use Rattle.tg_revive.specs.Reviving.{IsBadInHistory, LacksRoomAt, IsOriginOf, IsRevived, IsReviveFault, entries_made_before, fault_of_halted, graph_of_start}
 
 -- ---- before the first entry
 
@@ -59,8 +59,8 @@ reopened plan p limits s limit again = record {
 
 pub revived_on : (begin : HistoryStart) (es : List Entry) (limits : BlockLimits) (mid new : StoreState) → IsRevived begin [] limits mid → Resumes es mid new → IsRevived begin es limits new
 revived_on begin es limits mid new was resumed =
-    let count : length mid.entries ≡ entries_before begin + 0 = was.count in
-    let place : new.handed ≡ entries_before begin = resumed.handed ∙ was.place in
+    let count : length mid.entries ≡ entries_made_before begin + 0 = was.count in
+    let place : new.handed ≡ entries_made_before begin = resumed.handed ∙ was.place in
     let at : new.handed ≡ length mid.entries = omega (arith, place, count) in
     let more : length new.entries ≡ length mid.entries + length es = ap (λ (l : List Entry). length l) resumed.entries ∙ length-append mid.entries es in
     record {
@@ -112,10 +112,10 @@ bad_later g front es done legal bad =
       bad = λ is. bad.bad (subst (λ (k : ProtectionGraph). IsLegalEntry k x) graph is);
     }
 
-bad_on : (begin : HistoryStart) (es : List Entry) (limits : BlockLimits) (mid : StoreState) (at : ℕ) → IsRevived begin [] limits mid → IsFaithful mid → resuming.IsBadAt es mid at → IsBadAt begin es at
+bad_on : (begin : HistoryStart) (es : List Entry) (limits : BlockLimits) (mid : StoreState) (at : ℕ) → IsRevived begin [] limits mid → IsFaithful mid → resuming.IsBadInHistory es mid at → IsBadInHistory begin es at
 bad_on begin es limits mid at was faithful bad =
     let g : ProtectionGraph = start_at mid.opening in
-    let count : length mid.entries ≡ entries_before begin + 0 = was.count in
+    let count : length mid.entries ≡ entries_made_before begin + 0 = was.count in
     let after : length mid.entries < at + 1 =
     lt_of_not-le {n = at + 1} {m = length mid.entries} (λ (h : at + 1 ≤ length mid.entries). not_early g mid.entries es at faithful.legal bad (omega (arith, h))) in
     let late : length mid.entries ≤ at = omega (arith, after) in
@@ -129,9 +129,9 @@ bad_on begin es limits mid at was faithful bad =
       bad = subst (λ (k : ProtectionGraph). IsFirstBad k es done) was.graph later;
     }
 
-room_on : (begin : HistoryStart) (es : List Entry) (limits : BlockLimits) (mid new : StoreState) (at : ℕ) (why : RoomFault) → IsRevived begin [] limits mid → HasNoRoom es mid new at why → IsCrowdedOut begin es limits at why
+room_on : (begin : HistoryStart) (es : List Entry) (limits : BlockLimits) (mid new : StoreState) (at : ℕ) (why : RoomFault) → IsRevived begin [] limits mid → HasNoRoom es mid new at why → LacksRoomAt begin es limits at why
 room_on begin es limits mid new at why was lacks =
-    let count : length mid.entries ≡ entries_before begin + 0 = was.count in
+    let count : length mid.entries ≡ entries_made_before begin + 0 = was.count in
     record {
       done = lacks.done;
       place = omega (arith, lacks.place, count);
@@ -156,7 +156,7 @@ same_start (start.Shown snapshot) (Opened plan) is = absurd is
 same_start (start.Shown snapshot) (Shown p) is = ap graph_shown (sym is)
 same_start (start.Shown snapshot) (Joined p sum) is = ap graph_shown (sym is)
 
-pub none_is_bad : (text : List ℕ) (history : History) (at : ℕ) → IsTextOf text history → IsBadAt history.start history.entries.items at → ⊥
+pub none_is_bad : (text : List ℕ) (history : History) (at : ℕ) → IsTextOf text history → IsBadInHistory history.start history.entries.items at → ⊥
 none_is_bad text history at of bad =
     let es : List Entry = history.entries.items in
     IsFirstBad-not_legal (graph_of_start history.start) es bad.done bad.bad

@@ -3,19 +3,17 @@ ghost use Rattle.std.specs.Prelude.{ℕ, List};
 ghost use Rattle.tg_model.specs.Graph.{IsSound, ProtectionGraph};
 ghost use Rattle.tg_snapshot.specs.Snapshot.{IsSnapshotOf, Saved};
 ghost use Rattle.tg_journal.specs.declared.entry.Entry.{Entry};
-ghost use Rattle.tg_journal.specs.Auditing.{HasComeTo};
-ghost use Rattle.tg_journal.specs.History.{IsLegal, graph_after};
 ghost use Rattle.tg_entries.specs.declared.kept.History.{History};
 ghost use Rattle.tg_entries.specs.declared.kept.HistoryStart.TheVariants.{Shown};
 ghost use Rattle.tg_entries.specs.Kept.{IsTextOf};
 ghost use Rattle.tg_space.specs.SpaceTable.{BlockLimits};
-ghost use Rattle.tg_store.specs.Store.{StoreState, graph_of_store};
-ghost use Rattle.tg_revive.specs.Reviving.{IsBadAt, IsRevived};
+ghost use Rattle.tg_store.specs.Store.{StoreState};
+ghost use Rattle.tg_revive.specs.Reviving.{IsBadInHistory, IsRevived, RepresentsAfter};
 
 /// No entry of a history that was read from its text is bad.
 pub fn no_entry_of_a_text_is_bad()
     ensures { (text : List ℕ) (history : History) (at : ℕ) → IsTextOf text history →
-        ¬ IsBadAt history.start history.entries.items at }
+        ¬ IsBadInHistory history.start history.entries.items at }
 {}
 
 /// A store that goes on from a snapshot of a graph, and from entries since, represents a graph that is alike to the one
@@ -23,5 +21,5 @@ pub fn no_entry_of_a_text_is_bad()
 pub fn a_snapshot_is_enough()
     ensures { (g : ProtectionGraph) (snapshot : Saved) (es : List Entry) (limits : BlockLimits) (store : StoreState) →
         IsSound g → IsSnapshotOf snapshot g → IsRevived (Shown snapshot) es limits store →
-        IsLegal g es × HasComeTo (graph_after g es) (graph_of_store store) }
+        RepresentsAfter g es store }
 {}

@@ -18,7 +18,7 @@ use Rattle.tg_store.proofs.StandLaws.{sound_of}
 use Rattle.tg_shared.specs.Laws.{HasExactly}
 use Rattle.tg_shared.specs.Serving.{HasNotedEnd}
 use Rattle.tg_shared.specs.Sessions.{HoldsWhenFree, KeeperLooked, KeeperState, LockedState, SharedStart, graph_seen, is_spawn, keeper_knowledge, spawned}
-use Rattle.tg_shared.specs.Withdrawing.{HasWithdrawn, WithdrawsOnly}
+use Rattle.tg_shared.specs.Withdrawing.{HasWithdrawn, StaysAway, WithdrawsOnly}
 use Rattle.tg_shared.proofs.Balances.{one}
 use Rattle.tg_shared.proofs.Calls.{found_with}
 use Rattle.tg_shared.proofs.Ending.{nothing_noted}
@@ -94,9 +94,8 @@ withdraws_only start old new target rights keep names did =
 
 -- what is so of a graph whatever follows is so of the closed store
 pub stays_withdrawn : ((g : ProtectionGraph) (rights : RightSet) (y : ℕ) (es : List Entry) → IsSound g → y < g.made → AreHoldersOfSome g rights y [] → IsLegal g es → AreHoldersOfSome (graph_after g es) rights y [])
-    → (start : SharedStart) (old new : KeeperState) (target : ℕ) (rights : RightSet) (keep : List ℕ) (all : List Signed) (s : StoreState) → HasWithdrawn start target rights keep old new [] → target < (graph_seen start new.seen).made
-    → HasExactly start all s → IsFaithful s → BeginsWith all new.seen → AreHoldersOfSome (graph_of_store s) rights target []
-stays_withdrawn never start old new target rights keep all s did low has faithful begins =
+    → (start : SharedStart) (old new : KeeperState) (target : ℕ) (rights : RightSet) (keep : List ℕ) → HasWithdrawn start target rights keep old new [] → target < (graph_seen start new.seen).made → StaysAway start new.seen rights target
+stays_withdrawn never start old new target rights keep did low all s has faithful begins =
     let rest : List Signed = begins.0 in
     let then : ProtectionGraph = graph_seen start new.seen in
     let next : StoreState = did.came.3.1.0 in

@@ -1,10 +1,12 @@
 -- What the keeper's withdrawal of rights over a vertex leaves, and what the keeper knows then.
-use Rattle.std.specs.Prelude.{◌≡◌, ℕ, List, ◌++◌}
+use Rattle.std.specs.Prelude.{◌≡◌, ℕ, List, [], ◌++◌}
 use Rattle.tg_rights.specs.RightSet.{RightSet}
 use Rattle.tg_passes.specs.declared.signed.Maker.TheVariants.{Keeper}
 use Rattle.tg_passes.specs.declared.signed.Signed.{Signed}
 use Rattle.tg_passes.specs.Passes.{BeginsWith, Sees, sign_all}
+use Rattle.tg_store.specs.Store.{StoreState, IsFaithful, graph_of_store}
 use Rattle.tg_store.specs.Withdrawing.{AreHoldersOfSome, IsWithdrawn, withdrawing, withdrawn}
+use Rattle.tg_shared.specs.Laws.{HasExactly}
 use Rattle.tg_shared.specs.Sessions.{AtSeen, KeeperState, SharedStart, graph_seen, keeper_knowledge}
 
 -- The keeper withdrew rights over the target, and these names were returned. Of a store that may have been in the lock when exactly
@@ -26,3 +28,8 @@ pub record WithdrawsOnly (start : SharedStart) (seen : List Signed) (target : �
   pub graph : graph_seen start seen ≡ withdrawn (graph_seen start before) target rights keep
   pub subjects : (graph_seen start seen).subjects ≡ (graph_seen start before).subjects
   pub left : AreHoldersOfSome (graph_seen start seen) rights target names
+
+-- Whatever entries follow those that were seen, nobody who is reached holds one of the rights over the target.
+abbrev pub StaysAway : SharedStart → List Signed → RightSet → ℕ → Type 0
+StaysAway start seen rights target =
+  (all : List Signed) (s : StoreState) → HasExactly start all s → IsFaithful s → BeginsWith all seen → AreHoldersOfSome (graph_of_store s) rights target []

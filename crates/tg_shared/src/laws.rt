@@ -18,8 +18,7 @@ ghost use Rattle.tg_shared.specs.Sessions.{AreSharedOut, AtSeen, HasEnded, HasGr
 ghost use Rattle.tg_store.specs.Held.{IsHeldOver};
 ghost use Rattle.tg_store.specs.Leaving.{HasLeft};
 ghost use Rattle.tg_store.specs.Store.{IsFaithful, StoreState, graph_of_store};
-ghost use Rattle.tg_store.specs.Withdrawing.{AreHoldersOfSome};
-ghost use Rattle.tg_shared.specs.Withdrawing.{HasWithdrawn, WithdrawsOnly};
+ghost use Rattle.tg_shared.specs.Withdrawing.{HasWithdrawn, StaysAway, WithdrawsOnly};
 
 use tg_store::laws::withdrawn_rights_never_come_back;
 
@@ -158,9 +157,8 @@ pub fn a_withdrawal_ends_nobody()
 /// holds one of the rights over the target, whatever entries follow. So it is also after the last entry of the journal
 /// of the closed store.
 pub fn withdrawn_rights_stay_away()
-    ensures { (start : SharedStart) (old new : KeeperState) (target : ℕ) (rights : RightSet) (keep : List ℕ) (all : List Signed) (s : StoreState) →
-        HasWithdrawn start target rights keep old new [] → target < (graph_seen start new.seen).made →
-        HasExactly start all s → IsFaithful s → BeginsWith all new.seen → AreHoldersOfSome (graph_of_store s) rights target [] }
+    ensures { (start : SharedStart) (old new : KeeperState) (target : ℕ) (rights : RightSet) (keep : List ℕ) →
+        HasWithdrawn start target rights keep old new [] → target < (graph_seen start new.seen).made → StaysAway start new.seen rights target }
 {
     // This law says so of one graph.
     withdrawn_rights_never_come_back();

@@ -49,7 +49,7 @@ pub(crate) enum KeptFault {
 
 // How many lines of a file were passed, and how many of them are entries.
 #[derive(Clone, Copy, Drop)]
-pub(crate) struct Passed {
+pub(crate) struct PassedLines {
     pub(crate) lines: usize,
     pub(crate) entries: usize,
 }
@@ -145,7 +145,7 @@ fn audit_lines<L: Ledger>(
     audit: &mut TextAudit<L>,
     line: &mut Vec<u8>,
     file: &[u8],
-) -> Result<Passed, KeptFault>
+) -> Result<PassedLines, KeptFault>
     requires { HasRead [] audit.old }
     ensures read { OnOk result (HasRead (text_before_end file.now) audit.new) }
     ensures lines { IfOk result (λ passed. passed.lines ≡ length (file_texts file.now)) }
@@ -171,7 +171,7 @@ fn audit_rest<L: Ledger>(
     line: &mut Vec<u8>,
     file: &[u8],
     reader: &mut LineReader,
-) -> Result<Passed, KeptFault>
+) -> Result<PassedLines, KeptFault>
     requires { IsAfterFirst file.now reader.old.sum.digits reader.old.left.now }
     ensures read { (text : List ℕ) → HasRead text audit.old → OnOk result (HasRead (text ++ flat_map ended_line (texts_after reader.old.sum.digits reader.old.left.now)) audit.new) }
     ensures lines { IfOk result (λ passed. passed.lines ≡ length (file_texts file.now)) }
@@ -186,7 +186,7 @@ fn audit_rest<L: Ledger>(
         entries += usize::from(is_entry(text));
         byte = file.len() - reader.left.len();
     }
-    Ok(Passed { lines, entries })
+    Ok(PassedLines { lines, entries })
 }
 
 // Audits a line with this text, which has this number and begins at this byte.

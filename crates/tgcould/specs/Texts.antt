@@ -12,19 +12,19 @@ abbrev pub turn_text : Turn → List ℕ
 turn_text turn = line_text (deed_line turn.0 turn.1) ++ 10 ∷ []
 
 -- the words after the number of names that are lacking
-abbrev pub more_text : ℕ → List ℕ
-more_text names = if names == 1 then codes " name more\n" else codes " names more\n"
+abbrev pub more_names_text : ℕ → List ℕ
+more_names_text names = if names == 1 then codes " name more\n" else codes " names more\n"
 
 -- how many names are lacking
 abbrev pub wanting_text : ℕ → List ℕ
-wanting_text names = codes "could, with " ++ (decimal names ++ more_text names)
+wanting_text names = codes "could, with " ++ (decimal names ++ more_names_text names)
 
 -- turns that lead there, none where it is so already
 abbrev pub could_text : List Turn → List ℕ
 could_text turns = if length turns == 0 then codes "now\n" else codes "could\n" ++ flat_map turn_text turns
 
-abbrev pub answer_text : Answer → List ℕ
-answer_text (Never separation) = codes "never\n"
-answer_text (Could turns) = could_text turns.items
-answer_text (WantsNames turns names) = wanting_text names ++ flat_map turn_text turns.items
-answer_text Open = codes "open\n"
+abbrev pub chance_text : Answer → List ℕ
+chance_text (Never separation) = codes "never\n"
+chance_text (Could turns) = could_text turns.items
+chance_text (WantsNames turns names) = wanting_text names ++ flat_map turn_text turns.items
+chance_text Open = codes "open\n"

@@ -16,7 +16,7 @@ use Rattle.tgcould.specs.declared.query.VertexWord.{VertexWord}
 use Rattle.tgcould.specs.declared.query.VertexWord.TheVariants.{Named, New}
 use Rattle.tgcould.specs.declared.stars.Holders.{Holders}
 use Rattle.tgcould.specs.declared.stars.HeldRights.{HeldRights}
-use Rattle.tgcould.specs.Texts.{answer_text}
+use Rattle.tgcould.specs.Texts.{chance_text}
 
 -- the name of a vertex of a question: the next to be made has the number of those that were
 abbrev pub named_in : Shown → VertexWord → ℕ
@@ -30,7 +30,7 @@ AnswersShown p silent x right y answer = (g : ProtectionGraph) → IsPictureOf p
 -- where memory didn't run out, the text of an answer to the question is after what was there
 abbrev pub TellsHold : Shown → List ℕ → ℕ → Right → ℕ → PlainText → PlainText → Type 0
 TellsHold p silent x right y old new =
-    new.is_short ≡ false → (answer : Answer) × AnswersShown p silent x right y answer × Appends old (answer_text answer) new
+    new.is_short ≡ false → (answer : Answer) × AnswersShown p silent x right y answer × Appends old (chance_text answer) new
 
 -- on each graph of which this is the picture x never holds the right over y
 abbrev pub IsNever : Shown → List ℕ → ℕ → Right → ℕ → Type 0

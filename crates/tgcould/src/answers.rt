@@ -4,7 +4,7 @@ ghost use Rattle.std.specs.List.{All};
 ghost use Rattle.tgcould.specs.Policies.{IsKeptPolicy, MeetsPolicy, texts_of};
 ghost use Rattle.tgcould.specs.Told.{NeverComes};
 
-use crate::ask::{Said, tell};
+use crate::ask::{AnswerNote, tell};
 use crate::notes::Remarks;
 use crate::query::{Query, read_question};
 use clap::ArgMatches;
@@ -76,7 +76,7 @@ impl Answers {
     }
 
     // Adds the answer to a question, whose text this is.
-    fn add(&mut self, scene: &Scene, text: &str, query: Query) -> Said
+    fn add(&mut self, scene: &Scene, text: &str, query: Query) -> AnswerNote
         ensures never { IsTrue result.is_never → NeverComes scene.now.picture.now scene.now.silent.now query }
         ensures status { self.new.notes.status ≡ self.old.notes.status }
     {

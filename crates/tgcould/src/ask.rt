@@ -2,7 +2,7 @@
 ghost use Rattle.std.specs.Prelude.{◌≡◌, ℕ, IsTrue, true, false};
 ghost use Rattle.tg_rights.specs.declared.Right.{Right as TheRight};
 ghost use Rattle.tg_plain.specs.Grown.{Appends};
-ghost use Rattle.tgcould.specs.Texts.{answer_text};
+ghost use Rattle.tgcould.specs.Texts.{chance_text};
 ghost use Rattle.tgcould.specs.Told.{IsNever, IsNobody, IsNothing, NeverComes, SaysNever, TellsHold, named_in};
 
 use crate::query::{Query, VertexWord};
@@ -16,7 +16,7 @@ use tg_rights::{Right, Rights};
 
 /// The outcome of a question.
 #[derive(Clone, Copy)]
-pub struct Said {
+pub struct AnswerNote {
     /// Whether what is asked never comes about.
     pub is_never: bool,
     /// Whether the answer is open.
@@ -26,7 +26,7 @@ pub struct Said {
 }
 
 /// Appends the answer to a question.
-pub fn tell(alloc: Global, text: &mut PlainText, scene: &Scene, query: Query) -> Said
+pub fn tell(alloc: Global, text: &mut PlainText, scene: &Scene, query: Query) -> AnswerNote
     ensures { IsTrue result.is_never → NeverComes scene.now.picture.now scene.now.silent.now query }
 {
     match query {
@@ -51,7 +51,7 @@ fn name_of(scene: &Scene, vertex: VertexWord) -> u64
 }
 
 // Appends whether x could come to hold the right over y.
-fn tell_hold(alloc: Global, text: &mut PlainText, scene: &Scene, question: Question) -> Said
+fn tell_hold(alloc: Global, text: &mut PlainText, scene: &Scene, question: Question) -> AnswerNote
     ensures text { TellsHold scene.now.picture.now scene.now.silent.now question.x question.right question.y text.old text.new }
     ensures never { IsTrue result.is_never →
         IsNever scene.now.picture.now scene.now.silent.now question.x question.right question.y }
@@ -66,12 +66,12 @@ fn tell_hold(alloc: Global, text: &mut PlainText, scene: &Scene, question: Quest
 }
 
 // Appends the text of an answer.
-fn tell_answer(text: &mut PlainText, answer: &Answer) -> Said
-    ensures text { Appends text.old (answer_text answer.now) text.new }
+fn tell_answer(text: &mut PlainText, answer: &Answer) -> AnswerNote
+    ensures text { Appends text.old (chance_text answer.now) text.new }
     ensures never { IsTrue result.is_never → SaysNever answer.now }
 {
     add_answer(text, answer);
-    Said {
+    AnswerNote {
         is_never: is_never(answer),
         is_open: matches!(answer, Answer::Open),
         made: makings(answer.turns()),
@@ -97,10 +97,10 @@ fn makings(turns: &[(u64, Deed)]) -> u64 {
 }
 
 // The outcome of a list.
-fn listed(is_never: bool) -> Said
+fn listed(is_never: bool) -> AnswerNote
     ensures { result.is_never ≡ is_never }
 {
-    Said {
+    AnswerNote {
         is_never,
         is_open: false,
         made: 0,
@@ -108,7 +108,7 @@ fn listed(is_never: bool) -> Said
 }
 
 // Appends who could come to hold the right over y.
-fn tell_who(alloc: Global, text: &mut PlainText, scene: &Scene, right: Right, y: u64) -> Said
+fn tell_who(alloc: Global, text: &mut PlainText, scene: &Scene, right: Right, y: u64) -> AnswerNote
     ensures { IsTrue result.is_never → (x : ℕ) → IsNever scene.now.picture.now scene.now.silent.now x right y }
 {
     match holders_of(alloc, scene, right, y) {
@@ -121,7 +121,7 @@ fn tell_who(alloc: Global, text: &mut PlainText, scene: &Scene, right: Right, y:
 }
 
 // Appends these names and `new`, with a space between two, or that there are none.
-fn add_holders(text: &mut PlainText, holders: &Holders) -> Said
+fn add_holders(text: &mut PlainText, holders: &Holders) -> AnswerNote
     ensures { IsTrue result.is_never → IsNobody holders.now }
 {
     let first = text.len();
@@ -156,7 +156,7 @@ fn add_space(text: &mut PlainText, first: usize) {
 }
 
 // Appends which rights x could come to hold, and over whom.
-fn tell_what(alloc: Global, text: &mut PlainText, scene: &Scene, x: u64) -> Said
+fn tell_what(alloc: Global, text: &mut PlainText, scene: &Scene, x: u64) -> AnswerNote
     ensures { IsTrue result.is_never → (right : TheRight) (y : ℕ) → IsNever scene.now.picture.now scene.now.silent.now x right y }
 {
     match held_by(alloc, scene, x) {
@@ -169,7 +169,7 @@ fn tell_what(alloc: Global, text: &mut PlainText, scene: &Scene, x: u64) -> Said
 }
 
 // Appends each vertex with the rights over it, with a space between two, or that there are none.
-fn add_held(text: &mut PlainText, held: &HeldRights) -> Said
+fn add_held(text: &mut PlainText, held: &HeldRights) -> AnswerNote
     ensures { IsTrue result.is_never → IsNothing held.now }
 {
     let first = text.len();

@@ -2,7 +2,7 @@
 ghost use Rattle.std.specs.Prelude.{◌≡◌, ◌<◌};
 ghost use Rattle.tgcould.specs.Policies.{status_after};
 
-use crate::ask::Said;
+use crate::ask::AnswerNote;
 use itoa::Buffer;
 use std::alloc::Global;
 
@@ -35,7 +35,7 @@ impl Remarks {
 
     /// Adds how many boxes the lines of an answer need beyond the boxes that are left. It also adds whether something
     /// could come about that must never come about.
-    pub fn add(&mut self, question: &str, told: Said, must_never: bool)
+    pub fn add(&mut self, question: &str, told: AnswerNote, must_never: bool)
         ensures { self.new.status ≡ status_after self.old.status must_never told.is_never }
     {
         let more = match self.boxes {

@@ -3,7 +3,7 @@ ghost use Rattle.std.specs.Prelude.{◌≡◌, ◌++◌};
 ghost use Rattle.std.specs.List.{flat_map};
 ghost use Rattle.tg_text.specs.Grammar.{line_text};
 ghost use Rattle.tg_plain.specs.Grown.{Appends};
-ghost use Rattle.tgcould.specs.Texts.{more_text, answer_text, turn_text, wanting_text, could_text};
+ghost use Rattle.tgcould.specs.Texts.{more_names_text, chance_text, turn_text, wanting_text, could_text};
 
 use tg_could::Answer;
 use tg_model::Deed;
@@ -12,7 +12,7 @@ use tg_text::{Line, line_bytes, line_of_deed};
 
 /// Appends the text of an answer. It is a word, and after `could` the lines of the turns.
 pub fn add_answer(text: &mut PlainText, answer: &Answer)
-    ensures { Appends text.old (answer_text answer.now) text.new }
+    ensures { Appends text.old (chance_text answer.now) text.new }
 {
     match answer {
         Answer::Never(_) => text.add("never\n"),
@@ -80,7 +80,7 @@ fn add_line(text: &mut PlainText, line: Line)
 
 // The words after the number of names.
 fn names_more(names: u64) -> &'static str
-    ensures { result.now ≡ more_text names }
+    ensures { result.now ≡ more_names_text names }
 {
     if names == 1 {
         " name more\n"

@@ -5,7 +5,7 @@ use Rattle.tg_text.specs.declared.fault.ScriptFault.{ScriptFault}
 use Rattle.tg_text.specs.declared.fault.ScriptFault.TheVariants as script
 use Rattle.tg_entries.specs.declared.kept.History.{History}
 use Rattle.tg_entries.specs.Kept.{IsTextOf}
-use Rattle.tg_revive.specs.Reviving.{entries_before}
+use Rattle.tg_revive.specs.Reviving.{entries_made_before}
 use Rattle.tg_script.specs.declared.going.RunOn.{RunOn}
 use Rattle.tg_script.specs.GoingOn.{GoneOn, scene_on}
 use Rattle.tg_script.specs.Script.{Scene}
@@ -32,7 +32,7 @@ resumed known start history (Err why) of asked run = tt
 
 placed_at : {P : Type 0} (start : ResumedStart) (history : History) (from : RunOn P) → IsRunAfter history start from → from.skipped ≤ length from.store.entries
 placed_at start history from run =
-    let count : length from.store.entries ≡ entries_before history.start + length history.entries.items = run.store.count in
+    let count : length from.store.entries ≡ entries_made_before history.start + length history.entries.items = run.store.count in
     omega (arith, count, run.skipped)
 
 pub placed : {P : Type 0} (start : ResumedStart) (history : History) (r : Result (RunOn P) Stop) → IfOk r (IsRunAfter history start) → IfOk r (λ from. from.skipped ≤ length from.store.entries)

@@ -4,7 +4,7 @@ use Rattle.tg_text.specs.declared.stock.StockFault.{StockFault}
 use Rattle.tg_text.specs.declared.stock.StockFault.TheVariants as stock
 use Rattle.tg_script.specs.Lines.{read_failures, write_failures}
 use Rattle.tg_threads.specs.Race.{race_read_failures, race_write_failures}
-use Rattle.tgstore.specs.declared.resuming.ResumeFault.TheVariants as resume
+use Rattle.tgstore.specs.declared.resuming.HistoryFault.TheVariants as resume
 use Rattle.tgstore.specs.declared.start.StartFault.{StartFault}
 use Rattle.tgstore.specs.declared.start.StartFault.TheVariants as start
 use Rattle.tgstore.specs.declared.stop.Stop.{Stop}

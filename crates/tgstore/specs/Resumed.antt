@@ -7,14 +7,14 @@ use Rattle.tg_entries.specs.declared.kept.History.{History}
 use Rattle.tg_entries.specs.declared.kept.HistoryStart.{HistoryStart}
 use Rattle.tg_entries.specs.declared.kept.HistoryStart.TheVariants.{Opened, Shown}
 use Rattle.tg_entries.specs.Kept.{IsTextOf}
-use Rattle.tg_revive.specs.Reviving.{IsRevived, entries_before}
+use Rattle.tg_revive.specs.Reviving.{IsRevived, entries_made_before}
 use Rattle.tg_script.specs.declared.going.RunOn.{RunOn}
 use Rattle.tg_script.specs.GoingOn.{GoesOn, GoneOn, scene_on, whole_text}
 use Rattle.tg_text.specs.Refusing.{says_refusal}
 use Rattle.tgstore.specs.Boxes.{value_of_item}
 use Rattle.tgstore.specs.Strict.{status_if}
-use Rattle.tgstore.specs.declared.resuming.ResumeFault.{ResumeFault}
-use Rattle.tgstore.specs.declared.resuming.ResumeFault.TheVariants.{Text, OtherWorkers, OtherVertices, Store}
+use Rattle.tgstore.specs.declared.resuming.HistoryFault.{HistoryFault}
+use Rattle.tgstore.specs.declared.resuming.HistoryFault.TheVariants.{Text, OtherWorkers, OtherVertices, Store}
 use Rattle.tgstore.specs.declared.settings.Asked.{Asked}
 use Rattle.tgstore.specs.declared.start.ResumedStart.{ResumedStart}
 use Rattle.tgstore.specs.declared.stop.Stop.{Stop}
@@ -41,7 +41,7 @@ pub record MeetsAsked (asked : Asked) (begin : HistoryStart) : Type 0 where
   pub vertices : IsAsked asked.max_vertices (limit_of begin)
 
 -- the number of the words, and the other one of the history
-abbrev pub IsOther : Asked → HistoryStart → ResumeFault → Type 0
+abbrev pub IsOther : Asked → HistoryStart → HistoryFault → Type 0
 IsOther asked begin (Text fault) = ⊥
 IsOther asked begin (OtherWorkers n has) = (asked.workers ≡ Some n) × (has ≡ workers_of begin) × (n ≢ has)
 IsOther asked begin (OtherVertices n has) = IsAsked asked.workers (workers_of begin) × (asked.max_vertices ≡ Some n) × (has ≡ limit_of begin) × (n ≢ has)
@@ -51,7 +51,7 @@ IsOther asked begin (Store fault) = ⊥
 -- leaves out the entries before the history when it counts.
 pub record IsRunAfter (history : History) (start : ResumedStart) {P : Type 0} (from : RunOn P) : Type 0 where
   pub store : IsRevived history.start history.entries.items start.limits from.store
-  pub skipped : from.skipped ≡ entries_before history.start
+  pub skipped : from.skipped ≡ entries_made_before history.start
   pub stock : from.stock.items ≡ map value_of_item start.stock.items
   pub helpers : from.helpers ≡ start.helpers
 

@@ -5,7 +5,7 @@ ghost use Rattle.tgstore.specs.Ranges.{AreInRange};
 
 use crate::host::RunHost;
 use crate::on_threads::OnThreads;
-use crate::resuming::{ResumeFault, go_on_from};
+use crate::resuming::{HistoryFault, go_on_from};
 use crate::settings::Options;
 use crate::start::{ResumedStart, StartFault, prepare, prepare_resumed};
 use crate::stop::{Failure, Stop};
@@ -181,7 +181,7 @@ fn run_of<R: AllocGlobal + Files>(
 {
     match fs::open(rt, path) {
         Ok(file) => go_on_from(rt.alloc(), file, start),
-        Err(error) => Err(Stop::Resume(ResumeFault::Text(TextFault::Stream(error)))),
+        Err(error) => Err(Stop::Resume(HistoryFault::Text(TextFault::Stream(error)))),
     }
 }
 

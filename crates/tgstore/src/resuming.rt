@@ -1,7 +1,7 @@
 //! How a run goes on from the history of a file.
 ghost use Rattle.std.specs.Prelude.{◌≡◌, ◌≢◌, ◌≤◌, IfErr, IfOk, IfSome, MatchOption, OnOk, Some, length};
 ghost use Rattle.tg_entries.specs.Kept.{IsTextOf};
-ghost use Rattle.tg_revive.specs.Reviving.{entries_before};
+ghost use Rattle.tg_revive.specs.Reviving.{entries_made_before};
 ghost use Rattle.tgstore.specs.Resumed.{IsAsked, IsOther, IsResumed, IsRunAfter, MeetsAsked, limit_of, workers_of};
 
 use crate::boxes::new_drafts;
@@ -19,7 +19,7 @@ use thiserror::Error;
 
 /// Why a run doesn't go on from a history. Nothing of the script was read.
 #[derive(Clone, Copy, Debug, Error)]
-pub enum ResumeFault {
+pub enum HistoryFault {
     /// The file couldn't be read, or has no text of a history.
     #[error("--resume: {0}")]
     Text(TextFault),
@@ -51,7 +51,7 @@ pub(crate) fn go_on_from<F: Read + Drop>(
 }
 
 // The history whose text is in the file. It has to be as the words ask.
-fn history_of<F: Read + Drop>(alloc: Global, file: F, asked: Asked) -> Result<History, ResumeFault>
+fn history_of<F: Read + Drop>(alloc: Global, file: F, asked: Asked) -> Result<History, HistoryFault>
     ensures text { IfOk result (λ history. IfSome (F.remaining file) (λ text. IsTextOf text history)) }
     ensures met { IfOk result (λ history. MeetsAsked asked history.start) }
 {
@@ -60,7 +60,7 @@ fn history_of<F: Read + Drop>(alloc: Global, file: F, asked: Asked) -> Result<Hi
             Ok(()) => Ok(history),
             Err(fault) => Err(fault),
         },
-        Err(fault) => Err(ResumeFault::Text(fault)),
+        Err(fault) => Err(HistoryFault::Text(fault)),
     }
 }
 
@@ -73,17 +73,17 @@ fn read_file<F: Read + Drop>(alloc: Global, file: F) -> Result<History, TextFaul
 }
 
 // Checks that the history is as the words ask. Workers come first.
-fn check_asked(begin: &HistoryStart, asked: Asked) -> Result<(), ResumeFault>
+fn check_asked(begin: &HistoryStart, asked: Asked) -> Result<(), HistoryFault>
     ensures met { OnOk result (MeetsAsked asked begin.now) }
     ensures refused { IfErr result (IsOther asked begin.now) }
 {
     let has = workers_of(begin);
     if let Some(asked) = other_than(asked.workers, has) {
-        return Err(ResumeFault::OtherWorkers { asked, has });
+        return Err(HistoryFault::OtherWorkers { asked, has });
     }
     let has = limit_of(begin);
     if let Some(asked) = other_than(asked.max_vertices, has) {
-        return Err(ResumeFault::OtherVertices { asked, has });
+        return Err(HistoryFault::OtherVertices { asked, has });
     }
     Ok(())
 }
@@ -120,8 +120,8 @@ fn limit_of(begin: &HistoryStart) -> u64
 }
 
 // How many entries were made before a history.
-fn entries_before(begin: &HistoryStart) -> u64
-    ensures { result ≡ entries_before begin.now }
+fn entries_made_before(begin: &HistoryStart) -> u64
+    ensures { result ≡ entries_made_before begin.now }
 {
     match begin {
         HistoryStart::Opened(_) => 0,
@@ -138,7 +138,7 @@ fn run_after(
     ensures { IfOk result (IsRunAfter history start.now) }
 {
     let stock = new_drafts(alloc, &start.stock)?;
-    let skipped = entries_before(&history.start);
+    let skipped = entries_made_before(&history.start);
     let mut maker = ByLaw { alloc };
     match store_after(alloc, history, start.limits, &mut maker) {
         Ok(store) => Ok(RunOn {
@@ -147,6 +147,6 @@ fn run_after(
             stock,
             skipped,
         }),
-        Err(fault) => Err(Stop::Resume(ResumeFault::Store(fault))),
+        Err(fault) => Err(Stop::Resume(HistoryFault::Store(fault))),
     }
 }

@@ -2,7 +2,7 @@
 ghost use Rattle.std.specs.Prelude.{◌≡◌};
 ghost use Rattle.tgstore.specs.Faults.{status_of_stop};
 
-use crate::resuming::ResumeFault;
+use crate::resuming::HistoryFault;
 use crate::start::StartFault;
 use std::alloc::{AllocError, AllocFailed};
 use tg_script::ScriptFault;
@@ -23,7 +23,7 @@ pub enum Stop {
     Start(StartFault),
     /// Nothing of the script was read, since the run can't go on from the history.
     #[error(transparent)]
-    Resume(ResumeFault),
+    Resume(HistoryFault),
     /// The run met this fault.
     #[error(transparent)]
     Script(ScriptFault),
@@ -86,11 +86,11 @@ impl Stop {
                 | StartFault::StrictRace
                 | StartFault::ResumedRace,
             )
-            | Stop::Resume(ResumeFault::OtherWorkers { .. } | ResumeFault::OtherVertices { .. }) =>
+            | Stop::Resume(HistoryFault::OtherWorkers { .. } | HistoryFault::OtherVertices { .. }) =>
                 2,
             Stop::HelpUnwritten
             | Stop::Start(StartFault::OutOfMemory)
-            | Stop::Resume(ResumeFault::Text(_) | ResumeFault::Store(_))
+            | Stop::Resume(HistoryFault::Text(_) | HistoryFault::Store(_))
             | Stop::Script(_)
             | Stop::Race(_) => 1,
         }

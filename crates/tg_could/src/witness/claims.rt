@@ -5,7 +5,7 @@ use tg_rights::{Right, Rights};
 
 /// Rights of one vertex over another.
 #[derive(Clone, Copy, Drop)]
-pub(crate) struct Claim {
+pub(crate) struct EdgeClaim {
     pub(crate) from: u64,
     pub(crate) to: u64,
     pub(crate) rights: Rights,
@@ -13,25 +13,25 @@ pub(crate) struct Claim {
 
 /// What a turn needs: rights of its worker over a vertex, and rights of whoever hands them on. And what it gives.
 #[derive(Clone, Copy, Drop)]
-pub(crate) struct Claims {
-    pub(crate) by: Claim,
-    pub(crate) source: Claim,
-    pub(crate) given: Claim,
+pub(crate) struct TurnClaims {
+    pub(crate) by: EdgeClaim,
+    pub(crate) source: EdgeClaim,
+    pub(crate) given: EdgeClaim,
 }
 
-fn claim_of(from: u64, to: u64, rights: Rights) -> Claim {
-    Claim { from, to, rights }
+fn claim_of(from: u64, to: u64, rights: Rights) -> EdgeClaim {
+    EdgeClaim { from, to, rights }
 }
 
 // No rights of a vertex over itself.
-fn no_claim(name: u64) -> Claim {
+fn no_claim(name: u64) -> EdgeClaim {
     claim_of(name, name, Rights::empty())
 }
 
 /// What a turn needs and gives. `next` is the name that it makes.
-pub(crate) fn claims_of(worker: u64, deed: &Deed, next: u64) -> Claims {
+pub(crate) fn claims_of(worker: u64, deed: &Deed, next: u64) -> TurnClaims {
     match deed {
-        Deed::Create { label, .. } | Deed::Spawn { label, .. } => Claims {
+        Deed::Create { label, .. } | Deed::Spawn { label, .. } => TurnClaims {
             by: no_claim(worker),
             source: no_claim(worker),
             given: claim_of(worker, next, label.rights()),
@@ -42,7 +42,7 @@ pub(crate) fn claims_of(worker: u64, deed: &Deed, next: u64) -> Claims {
                 via,
                 target,
             },
-        ) => Claims {
+        ) => TurnClaims {
             by: claim_of(worker, *via, Rights::of(Right::T)),
             source: claim_of(*via, *target, rights.rights()),
             given: claim_of(worker, *target, rights.rights()),
@@ -53,12 +53,12 @@ pub(crate) fn claims_of(worker: u64, deed: &Deed, next: u64) -> Claims {
                 via,
                 target,
             },
-        ) => Claims {
+        ) => TurnClaims {
             by: claim_of(worker, *via, Rights::of(Right::G)),
             source: claim_of(worker, *target, rights.rights()),
             given: claim_of(*via, *target, rights.rights()),
         },
-        Deed::Plain(_) => Claims {
+        Deed::Plain(_) => TurnClaims {
             by: no_claim(worker),
             source: no_claim(worker),
             given: no_claim(worker),

@@ -28,7 +28,7 @@ pub(crate) struct Fact {
 
 // A way to a fact: a turn, and the two facts that it needs.
 #[derive(Clone, Copy, Drop)]
-struct Way {
+struct FactSource {
     by: Fact,
     source: Fact,
     turn: Handing,
@@ -166,7 +166,7 @@ impl Near {
     }
 
     // One of the ways to a fact, if it is a take or a grant of one who acts.
-    fn way(&self, fact: Fact, at: usize) -> Option<Way> {
+    fn way(&self, fact: Fact, at: usize) -> Option<FactSource> {
         let via = at / 2;
         let is_take = at % 2 == 0;
         let worker = if is_take { fact.from } else { via };
@@ -179,7 +179,7 @@ impl Near {
         } else {
             (Right::G, fact.from)
         };
-        Some(Way {
+        Some(FactSource {
             by: Fact {
                 from: worker,
                 right,
@@ -236,7 +236,7 @@ impl Near {
     }
 
     // One turn after which a way may be gone.
-    fn one_of(&self, way: Way) -> Option<Handing> {
+    fn one_of(&self, way: FactSource) -> Option<Handing> {
         if self.has(way.by) {
             return self.one(way.source);
         }
@@ -261,7 +261,7 @@ impl Near {
     }
 
     // Two turns after which a way may be gone.
-    fn two_of(&mut self, way: Way) -> Option<[Handing; 2]> {
+    fn two_of(&mut self, way: FactSource) -> Option<[Handing; 2]> {
         if self.has(way.by) {
             return self.two(way.source);
         }

@@ -6,9 +6,9 @@ use crate::search::{Findings, Hop};
 use crate::separation::conditions::all_differ;
 use crate::separation::{comes_later, has, single};
 use crate::witness::chains::Chains;
-use crate::witness::claims::Claim;
+use crate::witness::claims::EdgeClaim;
 use crate::witness::few::{Handing, MOST_NEAR, Near, grant_of, take_of};
-use crate::witness::shorter::{Pair, Start, Tried};
+use crate::witness::shorter::{Pair, TurnsStart, Tried};
 use crate::witness::trial::Trial;
 use std::alloc::{AllocError, Global};
 use tg_model::{Command, Deed, Edge, Law, MAX_WORKERS, Numbers, Picture};
@@ -263,14 +263,14 @@ impl<'a> Planner<'a> {
     }
 
     // Where the turns begin, and what they are to lead to.
-    fn start(&self, x: u64) -> Start {
+    fn start(&self, x: u64) -> TurnsStart {
         let Goal { asked, over, .. } = self.goal;
-        let goal = Claim {
+        let goal = EdgeClaim {
             from: x,
             to: over,
             rights: asked.rights(),
         };
-        Start {
+        TurnsStart {
             goal,
             made: self.picture.made(),
             free: x.max(over).saturating_add(1),

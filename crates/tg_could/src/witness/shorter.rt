@@ -4,7 +4,7 @@
 //! takes depends on the turns alone.
 use crate::search::growth::push;
 use crate::separation::conditions::all_hold;
-use crate::witness::claims::{Claim, NewNames, claims_of};
+use crate::witness::claims::{EdgeClaim, NewNames, claims_of};
 use std::alloc::{AllocError, Global};
 use tg_model::{Command, Deed, Making};
 use tg_rights::{Right, Rights};
@@ -23,7 +23,7 @@ pub(crate) struct Pair {
 
 // Rights of a pair, by the place of the pair.
 #[derive(Clone, Copy, Drop)]
-struct Held {
+struct PairRights {
     pair: usize,
     rights: Rights,
 }
@@ -33,17 +33,17 @@ struct Held {
 enum Effect {
     Transfer,
     Create,
-    Spawn(Held),
+    Spawn(PairRights),
     Retire,
 }
 
 // A turn, by the places of pairs. A fixed turn has to stay, because it makes a vertex up to one that is asked about.
 #[derive(Clone, Copy, Drop)]
-struct Step {
-    worker: Held,
-    by: Held,
-    source: Held,
-    given: Held,
+struct TriedTurn {
+    worker: PairRights,
+    by: PairRights,
+    source: PairRights,
+    given: PairRights,
     effect: Effect,
     is_fixed: bool,
     is_left_out: bool,
@@ -51,8 +51,8 @@ struct Step {
 
 /// Where turns begin, and what they are to lead to. The names below `free` have to be made.
 #[derive(Clone, Copy, Drop)]
-pub(crate) struct Start {
-    pub(crate) goal: Claim,
+pub(crate) struct TurnsStart {
+    pub(crate) goal: EdgeClaim,
     pub(crate) made: u64,
     pub(crate) free: u64,
     pub(crate) subjects: u64,
@@ -62,15 +62,15 @@ pub(crate) struct Start {
 #[derive(Drop)]
 pub(crate) struct Tried {
     pub(crate) pairs: Vec<Pair>,
-    steps: Vec<Step>,
-    start: Start,
+    steps: Vec<TriedTurn>,
+    start: TurnsStart,
     // The name that the next turn makes.
     next: u64,
     /// Whether memory ran out once.
     pub(crate) grown: Result<(), AllocError>,
 }
 
-impl Step {
+impl TriedTurn {
     // Whether it makes a vertex.
     fn is_making(&self) -> bool {
         matches!(self.effect, Effect::Create | Effect::Spawn(_))
@@ -78,8 +78,8 @@ impl Step {
 }
 
 // That a vertex takes turns, as a claim.
-fn acting(name: u64) -> Claim {
-    Claim {
+fn acting(name: u64) -> EdgeClaim {
+    EdgeClaim {
         from: name,
         to: name,
         rights: Rights::of(Right::R),
@@ -88,7 +88,7 @@ fn acting(name: u64) -> Claim {
 
 impl Tried {
     /// These turns.
-    pub(crate) fn of(alloc: Global, start: Start, turns: &[(u64, Deed)]) -> Tried {
+    pub(crate) fn of(alloc: Global, start: TurnsStart, turns: &[(u64, Deed)]) -> Tried {
         let goal = start.goal;
         let next = start.made;
         let mut tried = Tried {
@@ -115,11 +115,11 @@ impl Tried {
             Deed::Plain(Command::Retire) => Effect::Retire,
             Deed::Plain(_) => Effect::Transfer,
         };
-        let given = Held {
+        let given = PairRights {
             pair: self.pair(claims.given.from, claims.given.to),
             rights: claims.given.rights,
         };
-        let step = Step {
+        let step = TriedTurn {
             worker: self.need(acting(worker)),
             by: self.need(claims.by),
             source: self.need(claims.source),
@@ -135,12 +135,12 @@ impl Tried {
     }
 
     // Notes that some turn needs these rights.
-    fn need(&mut self, claim: Claim) -> Held {
+    fn need(&mut self, claim: EdgeClaim) -> PairRights {
         let at = self.pair(claim.from, claim.to);
         if let Some(pair) = self.pairs.get_mut(at) {
             pair.needed = pair.needed.union(claim.rights);
         }
-        Held {
+        PairRights {
             pair: at,
             rights: claim.rights,
         }
@@ -215,14 +215,14 @@ impl Tried {
             subjects = left;
         }
         // The pair of the goal is the first.
-        self.has(Held {
+        self.has(PairRights {
             pair: 0,
             rights: self.start.goal.rights,
         })
     }
 
     // Takes a turn. How many subjects are active then, unless it isn't allowed.
-    fn take(&mut self, step: Step, subjects: u64) -> Option<u64> {
+    fn take(&mut self, step: TriedTurn, subjects: u64) -> Option<u64> {
         if !all_hold(
             self.has(step.worker),
             self.has(step.by),
@@ -245,7 +245,7 @@ impl Tried {
     }
 
     // Whether a pair has these rights.
-    fn has(&self, held: Held) -> bool {
+    fn has(&self, held: PairRights) -> bool {
         match self.pairs.get(held.pair) {
             Some(pair) => pair.now.contains(held.rights),
             None => false,
@@ -253,14 +253,14 @@ impl Tried {
     }
 
     // Gives these rights to a pair.
-    fn give(&mut self, held: Held) {
+    fn give(&mut self, held: PairRights) {
         if let Some(pair) = self.pairs.get_mut(held.pair) {
             pair.now = pair.now.union(held.rights);
         }
     }
 
     // Takes these rights from a pair.
-    fn give_up(&mut self, held: Held) {
+    fn give_up(&mut self, held: PairRights) {
         if let Some(pair) = self.pairs.get_mut(held.pair) {
             pair.now = pair.now.minus(held.rights);
         }
