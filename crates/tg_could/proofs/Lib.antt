@@ -1,7 +1,6 @@
 pub mod SeparationLaws
 pub mod StillLaws
 pub mod MarkLaws
-pub mod KindLaws
 pub mod TurnLaws
 pub mod ReachedLaws
 pub mod AsIfLaws
