@@ -1,19 +1,24 @@
 -- The words of a view part whoever it doesn't join to a right.
-use Rattle.std.proofs.Common.{◌≡◌, ◌≢◌, ℕ, ◌<◌, ◌≤◌, true, false, List, ◌++◌, slice_index_or, bit_or, sym, ◌∙◌, ap, subst, arith}
+use Rattle.std.proofs.Common.{◌≡◌, ◌≢◌, ⊎_elim, ℕ, ◌<◌, ◌≤◌, true, false, List, ◌++◌, slice_index_or, bit_or, sym, ◌∙◌, ap, subst, arith}
 use Rattle.std.specs.List.{All, AllWithin, Contains}
 use Rattle.std.proofs.lemmas.Bool.{false≢true}
 use Rattle.std.proofs.lemmas.List.Elements.{All-contains, All-append}
-use Rattle.tg_rights.specs.RightSet.{RightSet, has}
+use Rattle.tg_rights.specs.RightSet.{RightSet, has, union}
+use Rattle.tg_rights.proofs.RightLaws.{has-union}
 use Rattle.tg_rights.specs.declared.Right.{Right}
 use Rattle.tg_model.specs.declared.edge.Edge.{Edge}
 use Rattle.tg_model.specs.Graph.{ProtectionGraph}
 use Rattle.tg_model.specs.Opened.{label_in}
 use Rattle.tg_model.specs.Picture.{Holds, Shown, IsPictureOf}
 use Rattle.tg_could.specs.declared.chance.Chance.TheVariants.{Never, Perhaps}
+use Rattle.tg_model.proofs.PictureLaws.{or_true}
+use Rattle.tg_could.specs.Reached.{JoinsMade, with_edges}
 use Rattle.tg_could.specs.Turns.{NeverHolds}
+use Rattle.tg_could.proofs.AsIfLaws.{label_in-append}
+use Rattle.tg_could.proofs.TurnLaws.{given_by}
 use Rattle.tg_could.specs.Separation.{Sides, MayAdd, Walks, IsEven}
 use Rattle.tg_could.specs.Names.{number_in}
-use Rattle.tg_could.specs.View.{name_word, island_word_at, is_at_most, meets, IsOfOne, Joins, JoinsEntry, IsIn, IsEntered, Stands, IsGathered, AreGathered, IsPlaced, IsCheckedOn, IsCounted, AreCounted, shown_with, sides_by, bound_of}
+use Rattle.tg_could.specs.View.{name_word, island_word_at, is_at_most, meets, IsOfOne, Joins, JoinsEntry, IsIn, IsEntered, Stands, IsGathered, AreGathered, IsPlaced, IsCheckedOn, IsCheckedSince, IsCounted, AreCounted, shown_with, sides_by, bound_of}
 use Rattle.tg_could.specs.declared.question.Question.{Question}
 use Rattle.tg_could.specs.declared.view.entries.PackedEdge.{PackedEdge}
 use Rattle.tg_could.specs.declared.view.incoming.Incoming.{Incoming}
@@ -121,6 +126,31 @@ module _ (silent : List ℕ) (opened : Shown) (added supposed : List Edge) (g : 
           (λ k d inside acts. even (slice_index_or opened.subjects k d) (checked.actors k d inside acts).is)
           (Parts-edges s q.x q.right q.y seen.edges
           (λ k d inside. counted-fits f q word (slice_index_or seen.edges k d) (counted k d inside) not_granted))
+
+-- with both ends of each edge made, the picture with these edges is one of the graph with them
+supposed-pictured : (p : Shown) (g : ProtectionGraph) (es : List Edge) → IsPictureOf p g → All (JoinsMade g.made) es → IsPictureOf (shown_with p es) (with_edges g es)
+supposed-pictured p g es picture made = record {
+  is_made = record {
+    subjects = picture.is_made.subjects;
+    ends = λ a b q h. ⊎_elim (λ old. picture.is_made.ends a b q old)
+        (λ new.
+        let given = given_by es a q b new in
+        let ends = All-contains (JoinsMade g.made) es given.edge made given.there in
+        (omega (arith, ends.0, given.from), omega (arith, ends.1, given.to)))
+        (or_true (has (g.label a b) q) (has (label_in es a b) q) (sym (has-union (g.label a b) (label_in es a b) q) ∙ h));
+  };
+  subjects = picture.subjects;
+  made = picture.made;
+  limit = picture.limit;
+  labels = λ a b. ap (λ (m : RightSet). union m (label_in es a b)) (picture.labels a b) ∙ sym (label_in-append p.edges es a b);
+}
+
+pub since-pictured : (silent : List ℕ) (p : Shown) (f : Facts) (added es : List Edge) (g : ProtectionGraph) → (since : IsCheckedSince silent p f added) → IsPictureOf p g → All (JoinsMade f.made) es →
+    IsPictureOf (shown_with (shown_with since.opened added) es) (with_edges g es)
+since-pictured silent p f added es g since picture made =
+    let of_opened = subst (λ (s : Shown). IsPictureOf s g) since.is picture in
+    supposed-pictured (shown_with since.opened added) g es of_opened
+    (subst (λ (m : ℕ). All (JoinsMade m) es) (since.checked.made ∙ sym of_opened.made) made)
 
 -- a word counts what a word counts that is within it
 pub gathered-within : (words : List ℕ) (x : ℕ) (r : Right) (hs : List (ℕ × RightSet)) (low at word more : ℕ) → ((a : ℕ) → is_at_most a word ≡ true → is_at_most a more ≡ true) → AllWithin (IsGathered words x r word) hs low at → AllWithin (IsGathered words x r more) hs low at

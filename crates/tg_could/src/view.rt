@@ -4,6 +4,7 @@ ghost use Rattle.std.specs.List.{All};
 ghost use Rattle.tg_model.specs.declared.opening.TheConstants.{MAX_WORKERS};
 ghost use Rattle.tg_could.specs.declared.chance.Chance.TheVariants.{Never};
 ghost use Rattle.tg_could.specs.View.{AreCounted, IsViewOf, IsCheckedOn, IsCheckedSince, IsCounted, IsPlaced, IsListed, JoinsEdge, Stands, is_at_most as within};
+ghost use Rattle.tg_could.specs.Reached.{JoinsMade};
 ghost use Rattle.tg_could.specs.Scenes.{EachActor, TakesTurns};
 ghost use Rattle.tg_could.specs.View.{GoesOn, TellsNever, TellsNeverWith};
 
@@ -92,9 +93,10 @@ impl View {
         self.could_as_if(&[], question)
     }
 
-    /// Answers as [`View::could`] does on the picture with these edges too. If an edge joins two parts of the view, the
-    /// answer is `Perhaps`, and [`could_hold`](crate::could_hold) answers about the picture with the edge. Takes no
-    /// memory. Takes time in proportion to the edges to y, to those that were added, and to these.
+    /// Answers as [`View::could`] does on the graph with these edges too. If an edge joins two parts of the view, or an
+    /// end of it wasn't made at the opening, the answer is `Perhaps`. Then [`could_hold`](crate::could_hold) answers
+    /// about the picture with the edge. Takes no memory. Takes time in proportion to the edges to y, to those that were
+    /// added, and to these.
     pub fn could_as_if(&self, supposed: &[Edge], question: Question) -> Chance
         ensures { TellsNeverWith (λ silent shown. IsViewOf silent shown self.now) supposed.now result question }
     {
@@ -104,18 +106,26 @@ impl View {
         self.facts.could(self.added.as_slice(), supposed, question)
     }
 
-    /// Adds an edge to the picture of the view, as a grant makes one from the vertex that is given the rights to their
-    /// target. Returns whether it did. It doesn't if the edge joins two parts of the view, which stays as it was then.
-    /// A new view has to be made of a picture with the edge. Each added edge costs later questions a step. Fails only
+    /// Adds an edge to the picture of the view. A grant makes such an edge, from the vertex that is given the rights to
+    /// their target. Returns whether it was added. It isn't if the edge joins two parts of the view, or if an end of it
+    /// wasn't made at the opening, or if the view answers nothing but `Perhaps`. Then the view stays as it was, and a
+    /// new view has to be opened on a picture with the edge. Each added edge costs later questions a step. Fails only
     /// when out of memory, and the view stays as it was then too.
     pub fn follow(&mut self, edge: Edge) -> Result<bool, AllocError>
         ensures { GoesOn self.old edge result self.new }
     {
-        if !self.facts.joins_none(&edge) {
+        if !self.takes(&edge) {
             return Ok(false);
         }
         self.added.push(edge)?;
         Ok(true)
+    }
+
+    // Whether an edge can be added, as `follow` says.
+    fn takes(&self, edge: &Edge) -> bool
+        ensures { IsTrue result → (self.now.is_shown ≡ true) × JoinsMade self.now.facts.made edge.now }
+    {
+        self.is_shown && self.facts.has_ends(edge) && self.facts.joins_none(edge)
     }
 }
 
@@ -145,10 +155,13 @@ impl Facts {
         (facts, places)
     }
 
-    // What a view answers by facts that were checked, of the picture with the edges that were added and are supposed.
+    // What a view answers by facts that were checked, of the graph with the edges that were added and are supposed.
     fn could(&self, added: &[Edge], supposed: &[Edge], question: Question) -> Chance
         ensures { TellsNeverWith (λ silent shown. IsCheckedSince silent shown self.now added.now) supposed.now result question }
     {
+        if !self.have_ends(supposed) {
+            return Chance::Perhaps;
+        }
         let Some(word) = self.word_over(added, supposed, question) else {
             return Chance::Perhaps;
         };
@@ -166,6 +179,25 @@ impl Facts {
             return Chance::Perhaps;
         }
         Chance::Never
+    }
+
+    // Whether both ends of each of these edges were made.
+    fn have_ends(&self, edges: &[Edge]) -> bool
+        ensures { IsTrue result → All (JoinsMade self.now.made) edges.now }
+    {
+        for edge in edges {
+            if !self.has_ends(edge) {
+                return false;
+            }
+        }
+        true
+    }
+
+    // Whether both ends of an edge were made.
+    fn has_ends(&self, edge: &Edge) -> bool
+        ensures { IsTrue result → JoinsMade self.now.made edge.now }
+    {
+        edge.from < self.made && edge.to < self.made
     }
 
     // The word of all who hold the right over y, with all islands where y isn't made yet and may be. There is none if x
