@@ -123,7 +123,9 @@ impl View {
 
     // Whether an edge can be added, as `follow` says.
     fn takes(&self, edge: &Edge) -> bool
-        ensures { IsTrue result → (self.now.is_shown ≡ true) × JoinsMade self.now.facts.made edge.now }
+        ensures shown { IsTrue result → self.now.is_shown ≡ true }
+        ensures made { IsTrue result → JoinsMade self.now.facts.made edge.now }
+        ensures joins { IsTrue result → JoinsEdge self.now.facts edge.now }
     {
         self.is_shown && self.facts.has_ends(edge) && self.facts.joins_none(edge)
     }
