@@ -29,5 +29,5 @@ abbrev pub KindOf : Scene → Question → AnswerKind → ProtectionGraph → Ty
 KindOf scene q kind g = IsKind scene.silent.now g q.x q.right q.y kind
 
 -- an answer other than `Never`
-abbrev pub SaysMore : Answer → Type 0
-SaysMore answer = ¬ (answer_kind answer ≡ Never)
+abbrev pub IsNotNever : Answer → Type 0
+IsNotNever answer = ¬ (answer_kind answer ≡ Never)

@@ -1,7 +1,7 @@
 //! Policies. A policy is a list of questions, and each of them has to be answered `Never`.
 ghost use Rattle.std.specs.Prelude.{◌≡◌, IfNone, IfOk, IfSome};
 ghost use Rattle.tg_could.specs.Policy.{IsKeptOrBroken};
-ghost use Rattle.tg_could.specs.Kinds.{SaysMore};
+ghost use Rattle.tg_could.specs.Kinds.{IsNotNever};
 ghost use Rattle.tg_could.specs.Scenes.{AnswerOf, NeverOf, OnGraphs};
 ghost use Rattle.tg_could.specs.View.{IsViewOf};
 
@@ -49,7 +49,7 @@ fn unless_never(
     requires { IsViewOf scene.now.silent.now scene.now.picture.now view.now }
     ensures told { IfOk result (λ told. OnGraphs scene.now (λ g. IfSome told (λ answer. AnswerOf scene.now question answer g))) }
     ensures never { IfOk result (λ told. OnGraphs scene.now (λ g. IfNone told (NeverOf scene.now question g))) }
-    ensures more { IfOk result (λ told. IfSome told SaysMore) }
+    ensures more { IfOk result (λ told. IfSome told IsNotNever) }
 {
     if view.could(question) == Chance::Never {
         return Ok(None);

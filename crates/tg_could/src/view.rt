@@ -6,7 +6,7 @@ ghost use Rattle.tg_could.specs.declared.chance.Chance.TheVariants.{Never};
 ghost use Rattle.tg_could.specs.View.{AreCounted, IsViewOf, IsCheckedOn, IsCheckedSince, IsCounted, IsPlaced, IsListed, JoinsEdge, Stands, is_at_most as within};
 ghost use Rattle.tg_could.specs.Reached.{JoinsMade};
 ghost use Rattle.tg_could.specs.Scenes.{EachActor, TakesTurns};
-ghost use Rattle.tg_could.specs.View.{GoesOn, TellsNever, TellsNeverWith};
+ghost use Rattle.tg_could.specs.View.{FollowsEdge, TellsNever, TellsNeverWith};
 
 pub(crate) mod entries;
 pub(crate) mod incoming;
@@ -112,7 +112,7 @@ impl View {
     /// new view has to be opened on a picture with the edge. Each added edge costs later questions a step. Fails only
     /// when out of memory, and the view stays as it was then too.
     pub fn follow(&mut self, edge: Edge) -> Result<bool, AllocError>
-        ensures { GoesOn self.old edge result self.new }
+        ensures { FollowsEdge self.old edge result self.new }
     {
         if !self.takes(&edge) {
             return Ok(false);
