@@ -1,7 +1,7 @@
-//! Answers that no clause of `tg_could` asks for. `Perhaps` of a view, and a host in the answer of `needs`, promise
-//! nothing. So a body that gives no other answer keeps every contract.
+//! Answers that no clause of `tg_could` asks for. `Perhaps` of a view, a view that doesn't go on, and a host in the
+//! answer of `needs` promise nothing. So a body that gives no other answer keeps every contract.
 use std::alloc::{AllocError, Global};
-use tg_could::{Chance, Question, Scene, View, needs};
+use tg_could::{AnswerKind, Breach, Chance, Question, Scene, View, first_breach, needs};
 use tg_model::{Edge, Picture};
 use tg_rights::{Label, Right, Rights};
 
@@ -71,6 +71,88 @@ fn is_told_by_view(alloc: Global) -> Result<bool, AllocError> {
 #[test]
 fn a_view_where_ten_act(rt: HostRuntime) {
     assert!(rt; is_told_by_view(rt.alloc()) == Ok(true));
+}
+
+// One edge.
+fn edge(alloc: Global, from: u64, to: u64, right: Right) -> Result<Vec<Edge>, AllocError> {
+    let mut edges = Vec::new(alloc);
+    add(&mut edges, from, to, Rights::of(right))?;
+    Ok(edges)
+}
+
+// Whether a view follows each of these edges.
+fn follows(view: &mut View, edges: &[Edge]) -> Result<bool, AllocError> {
+    for edge in edges {
+        if !view.follow(*edge)? {
+            return Ok(false);
+        }
+    }
+    Ok(true)
+}
+
+// What a view answers of subjects 0 and 5 with these edges. Each may or may not come to read the document.
+fn chances(view: &View, supposed: &[Edge]) -> (Chance, Chance) {
+    (
+        view.could_as_if(supposed, of_document(0, Right::R)),
+        view.could_as_if(supposed, of_document(5, Right::R)),
+    )
+}
+
+// Whether a view is asked with an edge, and follows it, if it joins no two islands and both ends were made.
+fn is_asked_and_goes_on(alloc: Global) -> Result<bool, AllocError> {
+    let picture = picture(alloc, 0, 1, Rights::of(Right::T))?;
+    let scene = Scene {
+        picture: &picture,
+        silent: &[],
+    };
+    let mut view = View::open(alloc, &scene)?;
+    let read = edge(alloc, 5, DOCUMENT, Right::R)?;
+    let bridge = edge(alloc, 2, 5, Right::T)?;
+    let unmade = edge(alloc, 5, DOCUMENT + 1, Right::R)?;
+    let mut is_right = chances(&view, read.as_slice()) == (Chance::Never, Chance::Perhaps);
+    is_right &= chances(&view, bridge.as_slice()) == (Chance::Perhaps, Chance::Perhaps);
+    is_right &= chances(&view, unmade.as_slice()) == (Chance::Perhaps, Chance::Perhaps);
+    is_right &= !follows(&mut view, bridge.as_slice())?;
+    is_right &= !follows(&mut view, unmade.as_slice())?;
+    is_right &= chances(&view, &[]) == (Chance::Never, Chance::Never);
+    is_right &= follows(&mut view, read.as_slice())?;
+    is_right &= chances(&view, &[]) == (Chance::Never, Chance::Perhaps);
+    Ok(is_right)
+}
+
+#[test]
+fn a_view_goes_on(rt: HostRuntime) {
+    assert!(rt; is_asked_and_goes_on(rt.alloc()) == Ok(true));
+}
+
+// The first breach of a policy about these subjects, which may not come to read the document.
+fn breach_of(alloc: Global, names: &[u64]) -> Result<Option<Breach>, AllocError> {
+    let picture = picture(alloc, 0, 1, Rights::of(Right::T))?;
+    let scene = Scene {
+        picture: &picture,
+        silent: &[],
+    };
+    let mut questions = Vec::new(alloc);
+    for name in names {
+        questions.push(of_document(*name, Right::R))?;
+    }
+    first_breach(alloc, &scene, questions.as_slice())
+}
+
+// Whether a policy is kept that leaves out subject 9, which reads the document, and another is broken by it.
+fn is_broken_at_nine(alloc: Global) -> Result<bool, AllocError> {
+    if breach_of(alloc, &[0, 1, 2])?.is_some() {
+        return Ok(false);
+    }
+    match breach_of(alloc, &[0, 9, 1, 9])? {
+        Some(breach) => Ok(breach.place == 1 && breach.answer.kind() == AnswerKind::Could),
+        None => Ok(false),
+    }
+}
+
+#[test]
+fn the_first_breach_of_a_policy(rt: HostRuntime) {
+    assert!(rt; is_broken_at_nine(rt.alloc()) == Ok(true));
 }
 
 // Whose turns would be enough for subject 0 to read the document, when all others are silent.

@@ -4,6 +4,8 @@ use Rattle.tg_rights.specs.declared.Right.{Right}
 use Rattle.tg_model.specs.Graph.{ProtectionGraph, IsSound}
 use Rattle.tg_could.specs.declared.answer.Answer.{Answer}
 use Rattle.tg_could.specs.declared.answer.Answer.TheVariants.{Never, Could, WantsNames, Open}
+use Rattle.tg_could.specs.declared.answer.AnswerKind.{AnswerKind}
+use Rattle.tg_could.specs.declared.answer.AnswerKind.TheVariants as kind
 use Rattle.tg_could.specs.Turns.{Turn, NeverHolds, LeadThere, CouldHold, MayCome, with_names}
 
 -- y was made, and fewer than 64 names are left; or 64 are, and x is one of them. Of a y that may yet be made names are never
@@ -40,3 +42,10 @@ turns_of (Never separation) = []
 turns_of (Could turns) = turns.items
 turns_of (WantsNames turns names) = turns.items
 turns_of Open = []
+
+-- the kind of an answer
+abbrev pub answer_kind : Answer → AnswerKind
+answer_kind (Never separation) = kind.Never
+answer_kind (Could turns) = kind.Could
+answer_kind (WantsNames turns names) = kind.WantsNames
+answer_kind Open = kind.Open

@@ -1,10 +1,12 @@
 -- What the laws of this crate say: words that no other contract needs.
-use Rattle.std.specs.Prelude.{◌≡◌, ◌≢◌, ◌<◌, ℕ, List, Bool, true}
+use Rattle.std.specs.Prelude.{◌≡◌, ◌≢◌, ◌<◌, ℕ, List, [], ◌∷◌, Bool, true}
 use Rattle.std.specs.List.{Contains}
 use Rattle.tg_rights.specs.RightSet.{RightSet}
 use Rattle.tg_rights.specs.declared.Right.{Right}
 use Rattle.tg_model.specs.Graph.{ProtectionGraph, IsSound}
-use Rattle.tg_model.specs.Picture.{IsMade, with_edge}
+use Rattle.tg_model.specs.Picture.{IsMade, IsPictureOf, Shown, with_edge}
+use Rattle.tg_model.specs.declared.edge.Edge.{Edge}
+use Rattle.tg_could.specs.View.{shown_with}
 use Rattle.tg_could.specs.Turns.{IsSilent, NeverHolds, StaysNever, MayGrant, granted}
 use Rattle.tg_could.specs.Answered.{IsShort}
 use Rattle.tg_could.specs.Separation.{Sides, Separates, IsConfined, NoneHolds}
@@ -40,3 +42,12 @@ NoneEverHolds inside silent g right y = (x : ℕ) → x < g.made → inside x �
 abbrev pub IsForeseenByEdge : List ℕ → ProtectionGraph → ℕ → ℕ → ℕ → RightSet → Type 0
 IsForeseenByEdge silent g host via target rights =
     Contains silent host → MayGrant g host via target rights → StaysNever silent (with_edge g via target rights) (granted g host via target rights)
+
+-- the edge by which one vertex has these rights over another
+abbrev pub edge_with : ℕ → ℕ → RightSet → Edge
+edge_with from to rights = record { from = from; to = to; label = rights }
+
+-- after a host grants rights over the target to the other vertex, the picture with this edge is one of the graph
+abbrev pub IsShownByEdge : Shown → ProtectionGraph → ℕ → ℕ → ℕ → RightSet → Type 0
+IsShownByEdge p g host via target rights = IsPictureOf p g → MayGrant g host via target rights →
+    IsPictureOf (shown_with p (edge_with via target rights ∷ [])) (granted g host via target rights)

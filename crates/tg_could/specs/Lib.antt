@@ -2,6 +2,8 @@ pub mod Turns
 pub mod Names
 pub mod Separation
 pub mod Answered
+pub mod Kinds
+pub mod Policy
 pub mod Scenes
 pub mod Reached
 pub mod Later

@@ -86,6 +86,10 @@ ReachedAnswerOf scene q told g = IsToldOf scene.silent.now g q.x q.right q.y tol
 abbrev pub with_edges : ProtectionGraph → List Edge → ProtectionGraph
 with_edges g edges = record g { label = λ a b. union (g.label a b) (label_in edges a b) }
 
+-- both ends of the edge are among so many vertices
+abbrev pub JoinsMade : ℕ → Edge → Type 0
+JoinsMade made edge = (edge.from < made) × (edge.to < made)
+
 -- an edge joins two different vertices, each of which an active subject reaches
 pub record JoinsReached (g : ProtectionGraph) (edge : Edge) : Type 0 where
   pub from : IsReachable g edge.from

@@ -1,8 +1,10 @@
 //! The question and its answers.
 ghost use Rattle.std.specs.Prelude.{◌≡◌, ◌<◌, IfNone, IfOk, IfSome, IsTrue};
+ghost use Rattle.tg_rights.specs.declared.Right.{Right as TheRight};
 ghost use Rattle.tg_model.specs.Graph.{ProtectionGraph};
 ghost use Rattle.tg_model.specs.Picture.{IsPictureOf};
 ghost use Rattle.tg_could.specs.Answered.{IsFar, IsShort};
+ghost use Rattle.tg_could.specs.Kinds.{KindOf};
 ghost use Rattle.tg_could.specs.Scenes.{AnswerOf, NeverOf, OnGraphs};
 
 use crate::question::{Question, Scene, Witness};
@@ -42,9 +44,37 @@ pub enum Answer {
     Open,
 }
 
+/// The kind of an [`Answer`], which says as much as the answer without its turns.
+#[derive(Clone, Copy, PartialEq, Eq, Drop)]
+pub enum AnswerKind {
+    /// x never holds the right, after no list of turns of those who act.
+    Never,
+    /// x holds it after some turns of those who act.
+    Could,
+    /// x holds it after some turns where more vertices may be made than are left.
+    WantsNames,
+    /// Nothing is known, as [`Answer::Open`] says.
+    Open,
+}
+
 impl Answer {
-    ghost use Rattle.std.specs.Prelude.{◌≡◌};
-    ghost use Rattle.tg_could.specs.Answered.{turns_of};
+    ghost use Rattle.std.specs.Prelude.{◌≡◌, ℕ, List};
+    ghost use Rattle.tg_could.specs.Answered.{IsAnswer, answer_kind, turns_of};
+    ghost use Rattle.tg_could.specs.Kinds.{IsKind};
+
+    /// The kind of the answer. Whatever question the answer is to, the kind says what is so of it.
+    pub fn kind(&self) -> AnswerKind
+        ensures is { result ≡ answer_kind self.now }
+        ensures says { (silent : List ℕ) (g : ProtectionGraph) (x : ℕ) (right : TheRight) (y : ℕ) →
+            IsAnswer silent g x right y self.now → IsKind silent g x right y result }
+    {
+        match self {
+            Answer::Never(_) => AnswerKind::Never,
+            Answer::Could(_) => AnswerKind::Could,
+            Answer::WantsNames { .. } => AnswerKind::WantsNames,
+            Answer::Open => AnswerKind::Open,
+        }
+    }
 
     /// The turns of the answer, in order. `Never` and `Open` have none.
     pub fn turns(&self) -> &[(u64, Deed)]
@@ -72,6 +102,19 @@ pub fn could_hold(alloc: Global, scene: &Scene, question: Question) -> Result<An
         Ok(None) => Ok(Answer::Never(found.sides)),
         Err(error) => Err(error),
     }
+}
+
+/// The kind of the answer alone, as [`could_hold`] answers. It takes the time of `could_hold` too, because `Could` is
+/// answered only after turns were replayed. Fails only when out of memory.
+pub fn could_hold_kind(
+    alloc: Global,
+    scene: &Scene,
+    question: Question,
+) -> Result<AnswerKind, AllocError>
+    ensures { IfOk result (λ kind. OnGraphs scene.now (KindOf scene.now question kind)) }
+{
+    let answer = could_hold(alloc, scene, question)?;
+    Ok(answer.kind())
 }
 
 // The answer by what the search has found. There is none if x never holds the right. Fails only when out of memory.

@@ -3,10 +3,10 @@ ghost use Rattle.std.specs.Prelude.{◌⊎◌, ℕ, List, Bool};
 ghost use Rattle.tg_rights.specs.RightSet.{RightSet};
 ghost use Rattle.tg_rights.specs.declared.Right.{Right};
 ghost use Rattle.tg_model.specs.Graph.{ProtectionGraph, IsSound};
-ghost use Rattle.tg_model.specs.Picture.{IsMade};
+ghost use Rattle.tg_model.specs.Picture.{IsMade, Shown};
 ghost use Rattle.tg_could.specs.Turns.{NeverHolds, CouldHold};
 ghost use Rattle.tg_could.specs.Answered.{IsShort};
-ghost use Rattle.tg_could.specs.Laws.{HasMeans, IsBroughtTo, IsConfinedWithout, IsForeseenByEdge, IsSeparated, NoneEverHolds};
+ghost use Rattle.tg_could.specs.Laws.{HasMeans, IsBroughtTo, IsConfinedWithout, IsForeseenByEdge, IsSeparated, IsShownByEdge, NoneEverHolds};
 
 /// Where two sets part x from a right over y, x never holds it, whatever any who act do.
 pub fn the_separated_never_hold()
@@ -26,6 +26,12 @@ pub fn the_confined_never_hold()
 pub fn a_grant_is_asked_about_before_it_is_made()
     ensures { (silent : List ℕ) (g : ProtectionGraph) (host via target : ℕ) (rights : RightSet) →
         IsForeseenByEdge silent g host via target rights }
+{}
+
+/// A grant adds its edge to the picture. So a view that has followed the edge is one of the graph after the grant.
+pub fn a_grant_adds_its_edge_to_the_picture()
+    ensures { (p : Shown) (g : ProtectionGraph) (host via target : ℕ) (rights : RightSet) →
+        IsShownByEdge p g host via target rights }
 {}
 
 /// If walks lead the right over y to x, x could come to hold it. There are turns of those who act after which x holds

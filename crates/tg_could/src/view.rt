@@ -1,11 +1,12 @@
 //! All questions of one picture at once.
-ghost use Rattle.std.specs.Prelude.{◌≡◌, ◌↔◌, ◌<◌, ◌≤◌, true, ℕ, length, IfOk, IsTrue};
+ghost use Rattle.std.specs.Prelude.{◌≡◌, ◌↔◌, ◌<◌, ◌≤◌, true, ℕ, length, IfOk, IfSome, IsTrue};
 ghost use Rattle.std.specs.List.{All};
 ghost use Rattle.tg_model.specs.declared.opening.TheConstants.{MAX_WORKERS};
 ghost use Rattle.tg_could.specs.declared.chance.Chance.TheVariants.{Never};
-ghost use Rattle.tg_could.specs.View.{IsViewOf, IsCheckedOn, IsPlaced, IsListed, Stands, is_at_most as within};
+ghost use Rattle.tg_could.specs.View.{AreCounted, IsViewOf, IsCheckedOn, IsCheckedSince, IsCounted, IsPlaced, IsListed, JoinsEdge, Stands, is_at_most as within};
+ghost use Rattle.tg_could.specs.Reached.{JoinsMade};
 ghost use Rattle.tg_could.specs.Scenes.{EachActor, TakesTurns};
-ghost use Rattle.tg_could.specs.View.{TellsNever};
+ghost use Rattle.tg_could.specs.View.{FollowsEdge, TellsNever, TellsNeverWith};
 
 pub(crate) mod entries;
 pub(crate) mod incoming;
@@ -18,7 +19,7 @@ use crate::question::{Question, Scene};
 use crate::search::growth::{push, table};
 use crate::search::names::Names;
 use crate::separation::conditions::pairs_match;
-use crate::separation::{is_among, is_silent};
+use crate::separation::{has, is_among, is_silent};
 use crate::view::entries::{PackedEdge, PackedEdges};
 use crate::view::incoming::Incoming;
 use crate::view::islands::Islands;
@@ -26,10 +27,12 @@ use crate::view::words::{is_within, meets};
 use std::alloc::{AllocError, Global};
 use tg_model::{Edge, MAX_WORKERS, Picture};
 
-/// What could come about on a picture, of all questions at once, as of the moment of [`View::open`].
+/// What could come about on a picture, of all questions at once. The picture is that of [`View::open`], with the edges
+/// that [`View::follow`] has added.
 #[derive(Drop)]
 pub struct View {
     facts: Facts,
+    added: Vec<Edge>,
     is_shown: bool,
 }
 
@@ -73,19 +76,58 @@ impl View {
         let (facts, places) = Facts::of(alloc, scene, names, entries.list.as_slice(), &mut grown);
         grown?;
         let is_shown = facts.is_checked(scene, &entries, places.as_slice());
-        Ok(View { facts, is_shown })
+        let added = Vec::new(alloc);
+        Ok(View {
+            facts,
+            added,
+            is_shown,
+        })
     }
 
-    /// Whether x could ever come to hold a right over y, as of the moment of [`View::open`]. The silent subjects take
-    /// no turns, and all other active subjects may take any turns. `Never` is proved, and `Perhaps` says nothing. Takes
-    /// no memory, and time in proportion to the edges to y.
+    /// Whether x could ever come to hold a right over y, on the picture of the view. The silent subjects take no turns,
+    /// and all other active subjects may take any turns. `Never` is proved, and `Perhaps` says nothing. Takes no
+    /// memory, and time in proportion to the edges to y and to those that were added.
     pub fn could(&self, question: Question) -> Chance
         ensures { TellsNever (λ silent shown. IsViewOf silent shown self.now) result question }
+    {
+        self.could_as_if(&[], question)
+    }
+
+    /// Answers as [`View::could`] does on the graph with these edges too. If an edge joins two parts of the view, or an
+    /// end of it wasn't made at the opening, the answer is `Perhaps`. Then [`could_hold`](crate::could_hold) answers
+    /// about the picture with the edge. Takes no memory. Takes time in proportion to the edges to y, to those that were
+    /// added, and to these.
+    pub fn could_as_if(&self, supposed: &[Edge], question: Question) -> Chance
+        ensures { TellsNeverWith (λ silent shown. IsViewOf silent shown self.now) supposed.now result question }
     {
         if !self.is_shown {
             return Chance::Perhaps;
         }
-        self.facts.could(question)
+        self.facts.could(self.added.as_slice(), supposed, question)
+    }
+
+    /// Adds an edge to the picture of the view. A grant makes such an edge, from the vertex that is given the rights to
+    /// their target. Returns whether it was added. It isn't if the edge joins two parts of the view, or if an end of it
+    /// wasn't made at the opening, or if the view answers nothing but `Perhaps`. Then the view stays as it was, and a
+    /// new view has to be opened on a picture with the edge. Each added edge costs later questions a step. Fails only
+    /// when out of memory, and the view stays as it was then too.
+    pub fn follow(&mut self, edge: Edge) -> Result<bool, AllocError>
+        ensures { FollowsEdge self.old edge result self.new }
+    {
+        if !self.takes(&edge) {
+            return Ok(false);
+        }
+        self.added.push(edge)?;
+        Ok(true)
+    }
+
+    // Whether an edge can be added, as `follow` says.
+    fn takes(&self, edge: &Edge) -> bool
+        ensures shown { IsTrue result → self.now.is_shown ≡ true }
+        ensures made { IsTrue result → JoinsMade self.now.facts.made edge.now }
+        ensures joins { IsTrue result → JoinsEdge self.now.facts edge.now }
+    {
+        self.is_shown && self.facts.has_ends(edge) && self.facts.joins_none(edge)
     }
 }
 
@@ -115,19 +157,14 @@ impl Facts {
         (facts, places)
     }
 
-    // What a view answers by facts that were checked.
-    fn could(&self, question: Question) -> Chance
-        ensures { TellsNever (λ silent shown. IsCheckedOn silent shown self.now) result question }
+    // What a view answers by facts that were checked, of the graph with the edges that were added and are supposed.
+    fn could(&self, added: &[Edge], supposed: &[Edge], question: Question) -> Chance
+        ensures { TellsNeverWith (λ silent shown. IsCheckedSince silent shown self.now added.now) supposed.now result question }
     {
-        let number = self.names.number(question.x);
-        let words = self.islands.reached.as_slice();
-        let Some(gathered) = self.incoming.gather(
-            words,
-            number,
-            question.right,
-            self.names.number(question.y),
-        )
-        else {
+        if !self.have_ends(supposed) {
+            return Chance::Perhaps;
+        }
+        let Some(word) = self.word_over(added, supposed, question) else {
             return Chance::Perhaps;
         };
         if question.x == question.y {
@@ -136,7 +173,7 @@ impl Facts {
         if self.is_alone(question.y) {
             return Chance::Never;
         }
-        let word = self.with_later(gathered, question.y);
+        let number = self.names.number(question.x);
         if meets(self.islands.granted(number), word) {
             return Chance::Perhaps;
         }
@@ -144,6 +181,96 @@ impl Facts {
             return Chance::Perhaps;
         }
         Chance::Never
+    }
+
+    // Whether both ends of each of these edges were made.
+    fn have_ends(&self, edges: &[Edge]) -> bool
+        ensures { IsTrue result → All (JoinsMade self.now.made) edges.now }
+    {
+        for edge in edges {
+            if !self.has_ends(edge) {
+                return false;
+            }
+        }
+        true
+    }
+
+    // Whether both ends of an edge were made.
+    fn has_ends(&self, edge: &Edge) -> bool
+        ensures { IsTrue result → JoinsMade self.now.made edge.now }
+    {
+        edge.from < self.made && edge.to < self.made
+    }
+
+    // The word of all who hold the right over y, with all islands where y isn't made yet and may be. There is none if x
+    // holds it, or if an edge that was added or is supposed joins two islands.
+    fn word_over(&self, added: &[Edge], supposed: &[Edge], question: Question) -> Option<u64>
+        ensures { IfSome result (AreCounted self.now added.now supposed.now question) }
+    {
+        let Some(gathered) = self.incoming.gather(
+            self.islands.reached.as_slice(),
+            self.names.number(question.x),
+            question.right,
+            self.names.number(question.y),
+        )
+        else {
+            return None;
+        };
+        let more = self.word_by(added, question) | self.word_by(supposed, question);
+        let word = self.with_later(gathered | more, question.y);
+        if !self.are_counted(added, question, word) {
+            return None;
+        }
+        if !self.are_counted(supposed, question, word) {
+            return None;
+        }
+        Some(word)
+    }
+
+    // The word of those who hold the right over y by these edges. Nothing is believed of it.
+    fn word_by(&self, edges: &[Edge], question: Question) -> u64 {
+        let mut word = 0;
+        for edge in edges {
+            if edge.to == question.y && has(edge.label, question.right) {
+                word |= self.islands.word(self.names.number(edge.from));
+            }
+        }
+        word
+    }
+
+    // Whether the words count each of these edges, and a word counts each by which the right over y is held.
+    fn are_counted(&self, edges: &[Edge], question: Question, word: u64) -> bool
+        ensures { IsTrue result → All (IsCounted self.now question word) edges.now }
+    {
+        for edge in edges {
+            if !self.is_counted(edge, question, word) {
+                return false;
+            }
+        }
+        true
+    }
+
+    // Whether the words count one edge, and a word counts it if the right over y is held by it.
+    fn is_counted(&self, edge: &Edge, question: Question, word: u64) -> bool
+        ensures { IsTrue result → IsCounted self.now question word edge.now }
+    {
+        if !self.joins_none(edge) {
+            return false;
+        }
+        if edge.to != question.y || !has(edge.label, question.right) {
+            return true;
+        }
+        let from = self.names.number(edge.from);
+        from != self.names.number(question.x) && is_within(self.islands.word(from), word)
+    }
+
+    // Whether the words count an edge, and it joins no two islands.
+    fn joins_none(&self, edge: &Edge) -> bool
+        ensures { IsTrue result → JoinsEdge self.now edge.now }
+    {
+        let from = self.names.number(edge.from);
+        let to = self.names.number(edge.to);
+        self.islands.is_joined(from, to, edge.label)
     }
 
     // Whether the facts are those of a picture.

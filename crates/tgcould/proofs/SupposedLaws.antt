@@ -9,8 +9,7 @@ use Rattle.tg_model.specs.Graph.{ProtectionGraph}
 use Rattle.tg_model.specs.Opened.{label_in}
 use Rattle.tg_model.specs.Picture.{Shown, IsPictureOf, with_edge}
 use Rattle.tg_model.proofs.LabelLaws.{label_in-push}
-use Rattle.tgcould.specs.Supposed.{JoinsMade}
-use Rattle.tg_could.specs.Reached.{with_edges}
+use Rattle.tg_could.specs.Reached.{JoinsMade, with_edges}
 
 -- ---- element by element
 

@@ -13,7 +13,8 @@ use Rattle.tgcould.specs.declared.query.VertexWord.{VertexWord}
 use Rattle.tgcould.specs.declared.query.VertexWord.TheVariants.{Named, New}
 use Rattle.tgcould.specs.declared.supposed.Supposed.{Supposed}
 use Rattle.tgcould.specs.Policies.{IsKeptPolicy, texts_of}
-use Rattle.tgcould.specs.Supposed.{JoinsMade, Supposes}
+use Rattle.tg_could.specs.Reached.{JoinsMade}
+use Rattle.tgcould.specs.Supposed.{Supposes}
 use Rattle.tg_could.specs.Reached.{with_edges}
 use Rattle.tgcould.specs.Told.{NeverComes, named_in}
 use Rattle.tgcould.specs.Verdict.{AreKept, IsKeptOn, NeverComesOn, named_on}

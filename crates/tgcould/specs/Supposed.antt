@@ -1,11 +1,11 @@
 -- What the options suppose: who takes no turns, and edges that are asked about as if they were there.
-use Rattle.std.specs.Prelude.{◌≡◌, ◌≢◌, ℕ, ◌<◌, List, ◌++◌, codes}
+use Rattle.std.specs.Prelude.{◌≡◌, ◌≢◌, ℕ, List, ◌++◌, codes}
 use Rattle.std.specs.List.{All, AllZip}
 use Rattle.clap.specs.declared.parser.matches.ArgMatches.{ArgMatches}
 use Rattle.tg_model.specs.declared.edge.Edge.{Edge}
 use Rattle.tg_model.specs.Graph.{ProtectionGraph}
 use Rattle.tg_model.specs.Picture.{Shown, IsPictureOf}
-use Rattle.tg_could.specs.Reached.{with_edges}
+use Rattle.tg_could.specs.Reached.{JoinsMade, with_edges}
 use Rattle.tg_text.specs.declared.line.Line.TheVariants as line
 use Rattle.tg_text.specs.Grammar.{line_text}
 use Rattle.tgcould.specs.declared.options.TheConstants.{SILENT, AS_IF}
@@ -31,10 +31,6 @@ pub record IsSupposed (matches : ArgMatches) (supposed : Supposed) : Type 0 wher
   pub edges : AreEdges (texts_of matches AS_IF.now) supposed.edges.items
 
 -- ---- the graph that is asked about
-
--- both ends of the edge are among so many vertices
-abbrev pub JoinsMade : ℕ → Edge → Type 0
-JoinsMade made edge = (edge.from < made) × (edge.to < made)
 
 -- of each graph that the one is a picture of, and that has both ends of these edges, the other is a picture with the edges
 abbrev pub Supposes : Shown → List Edge → Shown → Type 0

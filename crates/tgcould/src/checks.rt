@@ -1,7 +1,7 @@
 //! Whether the words of the command line fit their options. The first that doesn't is named on standard error.
 ghost use Rattle.std.specs.Prelude.{IsTrue};
 ghost use Rattle.std.specs.List.{All};
-ghost use Rattle.tgcould.specs.Supposed.{JoinsMade};
+ghost use Rattle.tg_could.specs.Reached.{JoinsMade};
 
 use crate::options::{ASK, NEVER, questions_in};
 use crate::query::read_question;

@@ -1,7 +1,7 @@
 //! Islands. An island is a set of subjects that act, of which each can hand on to the others what it gets.
 ghost use Rattle.std.specs.Prelude.{◌≡◌, IsTrue};
 ghost use Rattle.std.specs.List.{All};
-ghost use Rattle.tg_could.specs.View.{JoinsEntry, IsOfOne, name_word as word_in};
+ghost use Rattle.tg_could.specs.View.{Joins, JoinsEntry, IsOfOne, name_word as word_in};
 
 use crate::search::growth::table;
 use crate::search::names::Names;
@@ -11,7 +11,7 @@ use crate::view::entries::PackedEdge;
 use crate::view::walks::{bit_of, walks};
 use crate::view::words::{add, are_bridged, is_single, is_within, meets, word_of};
 use std::alloc::{AllocError, Global};
-use tg_rights::Right;
+use tg_rights::{Label, Right};
 
 /// Two sets of islands for each number, with a bit for each island. From the first, a walk of take edges leads to its
 /// vertex. From the second, one leads to a vertex that has grant over it.
@@ -78,28 +78,28 @@ impl Islands {
         ensures { IsTrue result → All (JoinsEntry self.now) entries.now }
     {
         for entry in entries {
-            if !self.is_joined(entry) {
+            if !self.is_joined(entry.from as u64, entry.to as u64, entry.label) {
                 return false;
             }
         }
         true
     }
 
-    // Whether the words count one edge, and it doesn't join two islands.
-    fn is_joined(&self, entry: &PackedEdge) -> bool
-        ensures { IsTrue result → JoinsEntry self.now entry.now }
+    /// Whether the words count an edge from one number to another, and it doesn't join two islands.
+    pub(crate) fn is_joined(&self, holder: u64, target: u64, label: Label) -> bool
+        ensures { IsTrue result → Joins self.now holder target label }
     {
-        let take = has(entry.label, Right::T);
-        let grant = has(entry.label, Right::G);
+        let take = has(label, Right::T);
+        let grant = has(label, Right::G);
         if !take && !grant {
             return true;
         }
-        let from = self.word(entry.from as u64);
+        let from = self.word(holder);
         if from == 0 {
             return true;
         }
-        let to = self.word(entry.to as u64);
-        let granted = self.granted(entry.to as u64);
+        let to = self.word(target);
+        let granted = self.granted(target);
         if !both_imply(take, true, is_within(from, to)) {
             return false;
         }

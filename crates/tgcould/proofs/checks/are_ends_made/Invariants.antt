@@ -1,5 +1,5 @@
 use Rattle.std.specs.List.{AllWithin}
-use Rattle.tgcould.specs.Supposed.{JoinsMade}
+use Rattle.tg_could.specs.Reached.{JoinsMade}
 use Rattle.tgcould.proofs.checks.are_ends_made.Given as goal
 
 abbrev pub invariant-loop-edge : goal.invariant-loop-edge

@@ -2,8 +2,7 @@ use Rattle.std.proofs.Common.{take}
 use Rattle.std.specs.List.{All}
 use Rattle.tg_model.specs.Graph.{ProtectionGraph}
 use Rattle.tg_model.specs.Picture.{IsPictureOf}
-use Rattle.tgcould.specs.Supposed.{JoinsMade}
-use Rattle.tg_could.specs.Reached.{with_edges}
+use Rattle.tg_could.specs.Reached.{JoinsMade, with_edges}
 use Rattle.tgcould.proofs.supposed.suppose.Given as goal
 
 -- the edges so far are there too

@@ -8,7 +8,7 @@ returns-then-not-both_imply-2 c t = absurd (false≢true t)
 
 pub returns : goal.returns
 returns c t =
-    let from = name_word c.args.self.now.reached.items c.args.entry.now.from in
+    let from = name_word c.args.self.now.reached.items c.args.holder in
     record {
       take = λ h.
           subst (λ (n : ℕ). is_at_most from n ≡ true) c.word-to.ensures
