@@ -1,6 +1,6 @@
 -- The heap whose account was given the user's edges, and from which the user has left, represents the graph afterwards.
 use Rattle.std.proofs.Common.{◌≡◌, ◌∙◌, inl, inr, ⊎_elim, ℕ, zero, suc, ◌+◌, ◌<◌, ◌==◌, ◌&&◌, Bool, true, false, cond, List, [], ◌∷◌, ◌++◌, length, map, take, get_or, append_assoc, refl, sym, ap, subst, arith}
-use Rattle.std.specs.Prelude.{Some, None, Result, Ok, Err, IfOk, OnErr}
+use Rattle.std.specs.Prelude.{Option, Some, None, Result, Ok, Err, IfOk, OnErr}
 use Rattle.std.specs.List.{All, Contains, sum_by}
 use Rattle.std.proofs.lemmas.Bool.{eqb-true, eqb-false, eq-eqb, false≢true}
 use Rattle.std.proofs.lemmas.List.{take_more}
@@ -271,17 +271,21 @@ keeps_all heap before after same = record { entries = same; content = IsSameCont
 
 -- ---- a key that is denied
 
+-- what is decided of a command is decided of the key that it is
+pub key_denial : (c : Content) (x : ℕ) (command key : Command) (denial : Option Denial) → command ≡ key → denial ≡ denial_of c.label c.value x command → denial_of c.label c.value x key ≡ denial
+key_denial c x command key denial same decided = ap (λ (k : Command). denial_of c.label c.value x k) (sym same) ∙ sym decided
+
 module _ (old new : StoreState) (made : ℕ) (is : IsStore old made) (x : ℕ) (subject : IsSubject (graph_of_store old) x) (key : Command)
     (opening : new.opening ≡ old.opening) (before after : List Entry) (before_is : before ≡ old.entries) (after_is : new.entries ≡ after)
     (denial : Denial) (denied : IsKeyDeniedOnHeap key x old.heap new.heap before after denial) where
-  abbrev graph : ProtectionGraph
-  graph = graph_of_store old
+  abbrev at : ProtectionGraph
+  at = graph_of_store old
 
-  on_graph : denial_of graph.label graph.value x key ≡ Some denial
-  on_graph = sym (denial_of-stands (content_of old.heap) graph is.faithful.stands x key subject) ∙ denied.denied
+  on_graph : denial_of at.label at.value x key ≡ Some denial
+  on_graph = sym (denial_of-stands (content_of old.heap) at is.faithful.stands x key subject) ∙ denied.denied
 
-  stays : step graph x (Plain key) ≡ graph
-  stays = step-denied graph x key denial on_graph
+  stays : step at x (Plain key) ≡ at
+  stays = step-denied at x key denial on_graph
 
   entry : Enters old new x (Plain key) (reply.Denied denial)
   entry = after_is ∙ denied.entry ∙ ap (λ (es : List Entry). es ++ (record { worker = x; deed = Plain key; reply = reply.Denied denial }) ∷ []) before_is
@@ -289,8 +293,8 @@ module _ (old new : StoreState) (made : ℕ) (is : IsStore old made) (x : ℕ) (
   pub IsStore-denied : IsStore new made
   IsStore-denied =
       IsStore-entered old new x (Plain key) (reply.Denied denial) opening entry made is.faithful subject tt
-      (sym (answer-denied graph x key denial on_graph))
-      (subst (λ (k : ProtectionGraph). IsContentOf (content_of new.heap) k) (sym stays) (subst (λ (h : HeapState). IsContentOf (content_of h) graph) (sym denied.heap) is.faithful.stands))
+      (sym (answer-denied at x key denial on_graph))
+      (subst (λ (k : ProtectionGraph). IsContentOf (content_of new.heap) k) (sym stays) (subst (λ (h : HeapState). IsContentOf (content_of h) at) (sym denied.heap) is.faithful.stands))
       (ap subject_names denied.heap ∙ is.faithful.subjects ∙ ap (λ (k : ProtectionGraph). k.subjects) (sym stays))
       (is.is_made ∙ ap (λ (k : ProtectionGraph). k.made) (sym stays))
 
