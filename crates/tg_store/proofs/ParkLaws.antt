@@ -23,12 +23,10 @@ use Rattle.tg_journal.specs.Journal.{Entries}
 use Rattle.tg_journal.proofs.Decided.{contains}
 use Rattle.tg_journal.proofs.HistoryLaws.{graph_after-push}
 use Rattle.tg_rows.specs.Content.{Content, IsContent, IsNamed, IsSameContent}
-use Rattle.tg_word.specs.declared.Place.{Place}
 use Rattle.tg_subjects.specs.Subjects.{nursery_held}
 use Rattle.tg_subjects.specs.declared.subject.Subject.{Subject}
-use Rattle.tg_rows.specs.Rows.{IsVertexAt}
 use Rattle.tg_rules.specs.Verdict.{HasSubject}
-use Rattle.tg_graph.specs.Heap.{HeapState, IsObject, KeepsPlaces, content_of, name_of, subject_names}
+use Rattle.tg_graph.specs.Heap.{HeapState, KeepsPlaces, content_of, subject_names}
 use Rattle.tg_graph.specs.Standing.{IsContentOf}
 use Rattle.tg_graph.proofs.StandingLaws.{IsSameContent-self, OnlyNamedHold-content_of, StandsFor-same, denial_of-stands}
 use Rattle.tg_store.specs.declared.parking.Parked.{Parked}

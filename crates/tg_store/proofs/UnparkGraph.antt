@@ -11,12 +11,12 @@ use Rattle.tg_model.specs.Graph.{ProtectionGraph, IsSound, IsSubject, listing_of
 use Rattle.tg_model.specs.Rules.{HoldsOver, Permits, denial_of, step}
 use Rattle.tg_model.proofs.AllowedLaws.{permits-no_denial, step-allowed}
 use Rattle.tg_journal.specs.declared.entry.Entry.{Entry}
-use Rattle.tg_journal.specs.History.{IsLegal, IsLegalEntry, graph_after}
+use Rattle.tg_journal.specs.History.{IsLegal, graph_after}
 use Rattle.tg_journal.proofs.HistoryLaws.{IsLegal-append, graph_after-append}
 use Rattle.tg_store.specs.declared.parking.Parking.{Parking}
 use Rattle.tg_store.specs.Leaving.{removal}
 use Rattle.tg_store.specs.Parking.{IsUnused, with_all_of}
-use Rattle.tg_store.specs.Unparking.{MayUnpark, take_key_of, taking, taking_all, unparked, unparking}
+use Rattle.tg_store.specs.Unparking.{MayUnpark, take_key_of, taking, unparked, unparking}
 use Rattle.tg_store.specs.Inner.Parking.{given}
 use Rattle.tg_store.proofs.FillLaws.{AreEdges, given_elsewhere, given_others, minus_self, not_named, row_edges, with_others, with_own, without_others, without_own}
 use Rattle.tg_store.proofs.ParkGraph.{given_row, holds_own, legal_done, not_none, with_labels}
@@ -220,10 +220,10 @@ module _ (g : ProtectionGraph) (p : Parking) where
       ∙ ⊎_elim
       (λ from_host. ap (λ v. cond (v && (y == p.account)) no_rights (g.label x y)) (ne_eqb x p.host from_host))
       (λ from_account.
-          elim (x == p.host) as (λ v. cond (v && (y == p.account)) no_rights (g.label x y) ≡ g.label x y) [
-            | true ↦ ap (λ v. cond v no_rights (g.label x y)) (ne_eqb y p.account from_account)
-            | false ↦ refl
-          ])
+      elim (x == p.host) as (λ v. cond (v && (y == p.account)) no_rights (g.label x y) ≡ g.label x y) [
+        | true ↦ ap (λ v. cond v no_rights (g.label x y)) (ne_eqb y p.account from_account)
+        | false ↦ refl
+      ])
       elsewhere
 
   pub unparked_left : MayUnpark g p → ((x : ℕ) → x ≢ p.host → g.label x p.account ≡ no_rights) → (x : ℕ) → (unparked g p).label x p.account ≡ no_rights

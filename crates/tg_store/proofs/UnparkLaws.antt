@@ -15,7 +15,7 @@ use Rattle.tg_model.proofs.ReachLaws.{HasEdge-holds}
 use Rattle.tg_journal.specs.declared.entry.Entry.{Entry}
 use Rattle.tg_journal.specs.History.{IsLegal, graph_after}
 use Rattle.tg_rows.specs.Content.{Content, IsContent, IsNamed}
-use Rattle.tg_graph.specs.Heap.{HeapState, content_of}
+use Rattle.tg_graph.specs.Heap.{content_of}
 use Rattle.tg_graph.specs.Standing.{IsContentOf}
 use Rattle.tg_graph.proofs.StandingLaws.{StandsFor-served, denial_of-stands}
 use Rattle.tg_store.specs.declared.parking.Parked.{Parked}

@@ -34,10 +34,7 @@ pub(crate) struct Pouring {
 
 /// Whether the vertex that is to get edges holds nothing, and the one that has them has no edge to it. Fails only when
 /// out of memory.
-pub(crate) fn is_unused<P: Payload>(
-    heap: &Heap<P>,
-    pouring: &Pouring,
-) -> Result<bool, AllocError>
+pub(crate) fn is_unused<P: Payload>(heap: &Heap<P>, pouring: &Pouring) -> Result<bool, AllocError>
     requires from { IsVertexAt heap.now.table.spaces pouring.now.from.name pouring.now.from.place }
     requires to { IsVertexAt heap.now.table.spaces pouring.now.to.name pouring.now.to.place }
     ensures unused { IfOk result (λ unused. IsTrue unused → IsUnused (content_of heap.now).label pouring.now.from.name pouring.now.to.name) }

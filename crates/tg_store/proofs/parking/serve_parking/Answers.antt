@@ -1,5 +1,5 @@
 -- The host holds grant over the account, so the heap has it. What is entered is what was done.
-use Rattle.std.proofs.Common.{◌≢◌, ◌∙◌, ◌++◌, ◌∷◌, [], ℕ, List, ap, refl, sym, subst, length, map, arith}
+use Rattle.std.proofs.Common.{◌∙◌, ◌++◌, ◌∷◌, [], ℕ, List, ap, refl, sym, subst, length, map, arith}
 use Rattle.tg_rights.specs.RightSet.{RightSet, only}
 use Rattle.tg_rights.specs.declared.Right.TheVariants as right
 use Rattle.tg_model.specs.Graph.{HasEdge, without_subject}

@@ -1,6 +1,6 @@
 use Rattle.std.proofs.Common.{ℕ, subst}
 use Rattle.std.specs.Prelude.{OnOk}
-use Rattle.tg_model.specs.Graph.{HasEdge, with_rights}
+use Rattle.tg_model.specs.Graph.{with_rights}
 use Rattle.tg_rows.specs.Content.{IsContent, IsNamed}
 use Rattle.tg_graph.specs.Heap.{content_of, name_of}
 use Rattle.tg_store.proofs.pouring.give_edge.Goals as goal

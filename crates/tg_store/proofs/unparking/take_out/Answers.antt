@@ -1,5 +1,5 @@
 -- The user gets the edges, and the host leaves the account. What is entered is what was done.
-use Rattle.std.proofs.Common.{◌≢◌, ◌∙◌, ◌++◌, ℕ, List, ap, refl, sym, subst, length, arith}
+use Rattle.std.proofs.Common.{◌∙◌, ◌++◌, ℕ, List, ap, refl, sym, subst, length, arith}
 use Rattle.std.specs.List.{All}
 use Rattle.tg_rights.specs.RightSet.{RightSet}
 use Rattle.tg_model.specs.Graph.{HasEdge, without_rights}
@@ -9,10 +9,8 @@ use Rattle.tg_rows.specs.Content.{IsContent, IsNamed}
 use Rattle.tg_graph.specs.Heap.{content_of}
 use Rattle.tg_subjects.specs.Subjects.{names_of}
 use Rattle.tg_subjects.specs.declared.subject.Subject.{Subject}
-use Rattle.tg_store.specs.declared.parking.Parking.{Parking}
 use Rattle.tg_store.specs.Unparking.{take_key_of, taking_all}
 use Rattle.tg_store.specs.Inner.Parking.{IsGiven, IsGivenUpAgain, parking_of}
-use Rattle.tg_store.specs.Inner.Unparking.{held_over}
 use Rattle.tg_store.proofs.ParkLaws.{each_edge, listed_edges, same_again, when_refused}
 use Rattle.tg_store.proofs.unparking.take_out.Goals as goal
 
