@@ -25,8 +25,8 @@ impl<P: Payload> Store<P> {
     /// all that it holds over the account. So there is an entry for each edge of the account, and three more.
     ///
     /// The host's grant is decided first. It is denied if two of the three vertices are the same, or if the host lacks
-    /// grant over the user or take over the account. So an account can't be taken out of twice by one host. A denied
-    /// unparking has this grant as its only entry, and changes nothing else.
+    /// grant over the user or take over the account. After an unparking the host holds no right over the account, so a
+    /// second one is denied. A denied unparking has this grant as its only entry, and changes nothing else.
     ///
     /// The refusals follow. After each there is no entry, and all labels, values and subjects are as they were:
     ///
