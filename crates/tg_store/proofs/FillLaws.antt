@@ -130,6 +130,25 @@ given_own (e ∷ es) label x f b are base =
           given_own es next x f b are.2 (⊎_elim (λ none. inl (same ∙ none)) (λ held. inr (same ∙ held)) base) ∙ ap (λ s. cond (has_name b es) (f b) s) same
     ] refl
 
+-- a row has no edge to a name over which nothing is held
+pub not_named : (es : List (ℕ × RightSet)) (f : ℕ → RightSet) (b : ℕ) → AreEdges f es → f b ≡ no_rights → has_name b es ≡ false
+not_named [] f b are none = refl
+not_named (e ∷ es) f b are none =
+    elim (b == e.0) as (λ v. (b == e.0) ≡ v → (v || has_name b es) ≡ false) [
+      | true ↦ λ is. absurd (true≢false (sym (ap is_none_held (ap f (sym (eqb-true b e.0 is)) ∙ none)) ∙ are.1))
+      | false ↦ λ _. not_named es f b are.2 none
+    ] refl
+
+-- what x holds over a name to which no edge leads stays
+pub given_elsewhere : (es : List (ℕ × RightSet)) (label : ℕ → ℕ → RightSet) (x b : ℕ) → has_name b es ≡ false → given label x es x b ≡ label x b
+given_elsewhere [] label x b isnt = refl
+given_elsewhere (e ∷ es) label x b isnt =
+    let next : ℕ → ℕ → RightSet = with_rights label x e.0 e.1 in
+    elim (b == e.0) as (λ v. (b == e.0) ≡ v → (v || has_name b es) ≡ false → given next x es x b ≡ label x b) [
+      | true ↦ λ _ none. absurd (true≢false none)
+      | false ↦ λ other none. given_elsewhere es next x b none ∙ with_own label x e.0 e.1 b ∙ ap (λ v. cond v (union (label x b) e.1) (label x b)) other
+    ] refl isnt
+
 -- ---- edges are taken back
 
 pub taken_push : (es : List (ℕ × RightSet)) (label : ℕ → ℕ → RightSet) (x : ℕ) (e : ℕ × RightSet) → taken_back label x (es ++ e ∷ []) ≡ without_rights (taken_back label x es) x e.0 e.1

@@ -19,6 +19,8 @@ mod LeaveLaws
 mod FillLaws
 mod ParkGraph
 mod ParkLaws
+mod UnparkGraph
+mod UnparkLaws
 mod HandLaws
 mod WithdrawLaws
 mod LeftLaws

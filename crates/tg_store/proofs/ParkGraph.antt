@@ -24,11 +24,11 @@ use Rattle.tg_store.specs.Inner.Parking.{given}
 use Rattle.tg_store.proofs.FillLaws.{AreEdges, given_others, given_own, has_name, minus_self, row_edges, row_from, row_has, with_others, with_own}
 use Rattle.tg_store.proofs.LeaveLaws.{graph_left, legal_leaving}
 
-abbrev with_labels : ProtectionGraph → (ℕ → ℕ → RightSet) → ProtectionGraph
+abbrev pub with_labels : ProtectionGraph → (ℕ → ℕ → RightSet) → ProtectionGraph
 with_labels g label = record g { label = label }
 
 -- a command that is permitted is legal with the reply that it is done
-legal_done : (g : ProtectionGraph) (x : ℕ) (command : Command) → IsSubject g x → Permits g.label g.value x command → reply_of g.label g.value g.made x command ≡ reply.Done
+pub legal_done : (g : ProtectionGraph) (x : ℕ) (command : Command) → IsSubject g x → Permits g.label g.value x command → reply_of g.label g.value g.made x command ≡ reply.Done
     → IsLegalEntry g (done_by x command)
 legal_done g x command subject permits done = record {
   subject = subject;
@@ -36,12 +36,35 @@ legal_done g x command subject permits done = record {
   reply = sym done ∙ ap (λ d. denied_or d (reply_of g.label g.value g.made x command)) (sym (no_denial-permits g.label g.value x command permits));
 }
 
-holds_own : (s : RightSet) → holds_all s s ≡ true
+pub holds_own : (s : RightSet) → holds_all s s ≡ true
 holds_own s = ap is_none_held (minus_self s)
 
 -- a name over which there are rights is not one over which there are none
 pub not_none : (f : ℕ → RightSet) (x y : ℕ) → is_none_held (f x) ≡ false → f y ≡ no_rights → x ≢ y
 not_none f x y some none is = true≢false (sym (ap is_none_held (ap f is ∙ none)) ∙ some)
+
+-- ---- a row is given
+
+module _ (g : ProtectionGraph) (sound : IsSound g) (from : ℕ) where
+  -- what a vertex holds over a name that isn't in its row
+  not_in_row : (y : ℕ) → has_name y (listing_of g.label g.made from) ≡ false → g.label from y ≡ no_rights
+  not_in_row y isnt =
+      elim (is_none_held (g.label from y)) as (λ v. is_none_held (g.label from y) ≡ v → g.label from y ≡ no_rights) [
+        | true ↦ λ nothing. none_held-same (g.label from y) nothing
+        | false ↦ λ some.
+            let below : y < g.made = (sound.ends_made from y some).1 in
+            absurd (true≢false (sym (row_has g.made 0 y (g.label from) (omega arith) (omega (arith, below)) some) ∙ isnt))
+      ] refl
+
+  -- who holds nothing over a name and is given the row holds over it what the vertex holds
+  pub given_row : (label : ℕ → ℕ → RightSet) (to y : ℕ) → label to y ≡ no_rights → given label to (listing_of g.label g.made from) to y ≡ g.label from y
+  given_row label to y none =
+      let row : List (ℕ × RightSet) = listing_of g.label g.made from in
+      given_own row label to (g.label from) y (row_edges g.made 0 (g.label from)) (inl none)
+      ∙ elim (has_name y row) as (λ v. has_name y row ≡ v → cond v (g.label from y) (label to y) ≡ g.label from y) [
+        | true ↦ λ _. refl
+        | false ↦ λ isnt. none ∙ sym (not_in_row y isnt)
+      ] refl
 
 -- ---- edges are put into the account
 
@@ -72,7 +95,7 @@ module _ (p : Parking) (f : ℕ → RightSet) (apart : p.user ≢ p.account) (no
 -- ---- the account is filled
 
 module _ (g : ProtectionGraph) (p : Parking) (sound : IsSound g) (host : IsSubject g p.host) (user : IsSubject g p.user)
-    (none : denial_of g.label g.value p.host (key_of p) ≡ None) (unused : IsUnused g.label p) where
+    (none : denial_of g.label g.value p.host (key_of p) ≡ None) (unused : IsUnused g.label p.user p.account) where
   abbrev row : List (ℕ × RightSet)
   row = listing_of g.label g.made p.user
 
@@ -113,25 +136,10 @@ module _ (g : ProtectionGraph) (p : Parking) (sound : IsSound g) (host : IsSubje
   give_up : Permits put.label put.value p.user (Remove (only right.G) p.account)
   give_up = (apart, ap (λ s. holds_all s (only right.G)) (given_others row opened.label p.account p.user p.account apart) ∙ key_held)
 
-  -- what the user holds over a name that isn't in its row
-  pub not_in_row : (y : ℕ) → has_name y row ≡ false → g.label p.user y ≡ no_rights
-  not_in_row y isnt =
-      elim (is_none_held (g.label p.user y)) as (λ v. is_none_held (g.label p.user y) ≡ v → g.label p.user y ≡ no_rights) [
-        | true ↦ λ nothing. none_held-same (g.label p.user y) nothing
-        | false ↦ λ some.
-            let below : y < g.made = (sound.ends_made p.user y some).1 in
-            absurd (true≢false (sym (row_has g.made 0 y (g.label p.user) (omega arith) (omega (arith, below)) some) ∙ isnt))
-      ] refl
-
   -- the account holds what the user holds
   account_own : (y : ℕ) → put.label p.account y ≡ g.label p.user y
   account_own y =
-      let was : opened.label p.account y ≡ no_rights = with_others g.label p.user p.account (only right.G) p.account y (λ is. apart (sym is)) ∙ unused.empty y in
-      given_own row opened.label p.account (g.label p.user) y edges (inl was) ∙
-      elim (has_name y row) as (λ v. has_name y row ≡ v → cond v (g.label p.user y) (opened.label p.account y) ≡ g.label p.user y) [
-        | true ↦ λ _. refl
-        | false ↦ λ isnt. was ∙ sym (not_in_row y isnt)
-      ] refl
+      given_row g sound p.user opened.label p.account y (with_others g.label p.user p.account (only right.G) p.account y (λ is. apart (sym is)) ∙ unused.empty y)
 
   -- once the key is given up
   labels : (a b : ℕ) → without_rights put.label p.user p.account (only right.G) a b ≡ (with_account g p).label a b
@@ -203,3 +211,16 @@ module _ (g : ProtectionGraph) (p : Parking) (sound : IsSound g) (host : IsSubje
       ∙ ap (λ (k : ProtectionGraph). graph_after k (leaving g p.user)) graph_filled
       ∙ ap (λ (es : List Entry). graph_after (with_account g p) es) (sym same_leaving)
       ∙ graph_left (with_account g p) p.user sound_filled user
+
+-- ---- the labels afterwards
+
+module _ (g : ProtectionGraph) (p : Parking) where
+  pub parked_account : (y : ℕ) → p.user ≢ p.account → (parked g p).label p.account y ≡ g.label p.user y
+  parked_account y other =
+      ap (λ v. cond v no_rights ((with_account g p).label p.account y)) (ne_eqb p.account p.user (λ is. other (sym is)))
+      ∙ ap (λ v. cond v (g.label p.user y) (g.label p.account y)) (eq-eqb p.account p.account refl)
+
+  pub parked_others : (x y : ℕ) → x ≢ p.account → x ≢ p.user → (parked g p).label x y ≡ g.label x y
+  parked_others x y from_account from_user =
+      ap (λ v. cond v no_rights ((with_account g p).label x y)) (ne_eqb x p.user from_user)
+      ∙ ap (λ v. cond v (g.label p.user y) (g.label x y)) (ne_eqb x p.account from_account)

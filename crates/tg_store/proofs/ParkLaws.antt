@@ -1,6 +1,6 @@
 -- The heap whose account was given the user's edges, and from which the user has left, represents the graph afterwards.
 use Rattle.std.proofs.Common.{◌≡◌, ◌∙◌, inl, inr, ⊎_elim, ℕ, zero, suc, ◌+◌, ◌<◌, ◌==◌, ◌&&◌, Bool, true, false, cond, List, [], ◌∷◌, ◌++◌, length, map, take, get_or, append_assoc, refl, sym, ap, subst, arith}
-use Rattle.std.specs.Prelude.{Some, None, Result, Ok, Err, IfOk, OnErr}
+use Rattle.std.specs.Prelude.{Option, Some, None, Result, Ok, Err, IfOk, OnErr}
 use Rattle.std.specs.List.{All, Contains, sum_by}
 use Rattle.std.proofs.lemmas.Bool.{eqb-true, eqb-false, eq-eqb, false≢true}
 use Rattle.std.proofs.lemmas.List.{take_more}
@@ -8,6 +8,7 @@ use Rattle.std.proofs.lemmas.List.Sums.{get_or-le-sum_by}
 use Rattle.tg_rights.specs.RightSet.{RightSet, is_none_held, minus, no_rights, only, union}
 use Rattle.tg_rights.specs.declared.Right.TheVariants as right
 use Rattle.tg_rights.proofs.RightLaws.{none_held-same}
+use Rattle.tg_model.specs.declared.command.Command.{Command}
 use Rattle.tg_model.specs.declared.command.Deed.TheVariants.{Plain}
 use Rattle.tg_model.specs.declared.reply.Denial.{Denial}
 use Rattle.tg_model.specs.declared.reply.Reply.TheVariants as reply
@@ -22,12 +23,10 @@ use Rattle.tg_journal.specs.Journal.{Entries}
 use Rattle.tg_journal.proofs.Decided.{contains}
 use Rattle.tg_journal.proofs.HistoryLaws.{graph_after-push}
 use Rattle.tg_rows.specs.Content.{Content, IsContent, IsNamed, IsSameContent}
-use Rattle.tg_word.specs.declared.Place.{Place}
 use Rattle.tg_subjects.specs.Subjects.{nursery_held}
 use Rattle.tg_subjects.specs.declared.subject.Subject.{Subject}
-use Rattle.tg_rows.specs.Rows.{IsVertexAt}
 use Rattle.tg_rules.specs.Verdict.{HasSubject}
-use Rattle.tg_graph.specs.Heap.{HeapState, IsObject, KeepsPlaces, content_of, name_of, subject_names}
+use Rattle.tg_graph.specs.Heap.{HeapState, KeepsPlaces, content_of, subject_names}
 use Rattle.tg_graph.specs.Standing.{IsContentOf}
 use Rattle.tg_graph.proofs.StandingLaws.{IsSameContent-self, OnlyNamedHold-content_of, StandsFor-same, denial_of-stands}
 use Rattle.tg_store.specs.declared.parking.Parked.{Parked}
@@ -36,12 +35,12 @@ use Rattle.tg_store.specs.declared.parking.ParkFault.{ParkFault}
 use Rattle.tg_store.specs.declared.parking.Parking.{Parking}
 use Rattle.tg_store.specs.declared.parking.Sides.{Sides}
 use Rattle.tg_store.specs.Leaving.{graph_after_leave, removal, retiring}
-use Rattle.tg_store.specs.Parking.{ComesOfParking, IsInUse, IsParked, IsParkingDenied, IsUnused, KeepsGraph, filling, key_of, parked, parking, with_account}
-use Rattle.tg_store.specs.Inner.Parking.{IsGiven, IsGivenUpAgain, IsParkedOnHeap, IsParkingDeniedOnHeap, IsRowOf, IsTakenBack, KeepsContent, ParksOnHeap, ParksSomeRow, given, parking_of, taken_back}
+use Rattle.tg_store.specs.Parking.{ComesOfParking, IsInUse, IsKeyDenied, IsParked, IsUnused, KeepsGraph, filling, key_of, parked, parking, with_account, with_all_of}
+use Rattle.tg_store.specs.Inner.Parking.{IsGiven, IsGivenUpAgain, IsKeyDeniedOnHeap, IsParkedOnHeap, IsRowOf, IsTakenBack, KeepsContent, ParksOnHeap, ParksSomeRow, given, parking_of, taken_back}
 use Rattle.tg_store.specs.Store.{StoreState, Enters, IsFaithful, IsStore, graph_of_store}
-use Rattle.tg_store.proofs.FillLaws.{AreEdges, given_others, given_own, given_push, has_name, row_edges, row_has, taken_push, undone}
+use Rattle.tg_store.proofs.FillLaws.{AreEdges, given_others, given_push, has_name, row_edges, row_has, taken_push, undone}
 use Rattle.tg_store.proofs.LeaveLaws.{graph_left, legal_removals, listed}
-use Rattle.tg_store.proofs.ParkGraph.{graph_parked, legal_parking, may_park, not_in_row, same_listing, sound_filled}
+use Rattle.tg_store.proofs.ParkGraph.{given_row, graph_parked, legal_parking, may_park, same_listing, sound_filled}
 use Rattle.tg_store.proofs.StandLaws.{IsStore-entered, IsStore-grown, IsStore-kept, graph-entered, graph-grown, sound_of}
 
 -- ---- a row that the heap lists
@@ -147,10 +146,6 @@ keeps_both a b c first second = record {
 pub keeps_self : (s : HeapState) → KeepsPlaces s s
 keeps_self s = record { subjects = refl; limits = refl; vertices = λ x p at. at }
 
--- the object at a place keeps its name
-pub object_kept : (old new : HeapState) (p : Place) → KeepsPlaces old new → IsObject old p → IsVertexAt new.table.spaces (name_of old p) p
-object_kept old new p kept object = kept.vertices (name_of old p) p (record { object = object; named = refl })
-
 pub subject_kept : (old new : HeapState) (s : Subject) → KeepsPlaces old new → HasSubject old s → HasSubject new s
 subject_kept old new s kept has = record {
   there = subst (λ (xs : List Subject). Contains xs s) (sym kept.subjects) has.there;
@@ -158,55 +153,60 @@ subject_kept old new s kept has = record {
   vertex = kept.vertices s.name s.place has.vertex;
 }
 
+-- ---- a vertex is given a row on the heap
+
+module _ (c : Content) (g : ProtectionGraph) (stands : IsContentOf c g) (from to : ℕ) (from_named : IsNamed c from) (to_named : IsNamed c to) (unused : IsUnused c.label from to) where
+  pub unused_on_graph : IsUnused g.label from to
+  unused_on_graph = record {
+    empty = λ y. sym (stands.labels to y to_named) ∙ unused.empty y;
+    apart = sym (stands.labels from to from_named) ∙ unused.apart;
+  }
+
+  closed : (a b : ℕ) → IsNamed c a → HasEdge (with_all_of g from to).label a b → IsNamed c b
+  closed a b named edge =
+      elim (a == to) as (λ v. is_none_held (cond v (g.label from b) (g.label a b)) ≡ false → IsNamed c b) [
+        | true ↦ λ there. stands.closed from b from_named there
+        | false ↦ λ there. stands.closed a b named there
+      ] edge
+
+  labels : IsSound g → (a b : ℕ) → IsNamed c a → given c.label to (listing_of g.label g.made from) a b ≡ (with_all_of g from to).label a b
+  labels sound a b named =
+      let row : List (ℕ × RightSet) = listing_of g.label g.made from in
+      elim (a == to) as (λ v. (a == to) ≡ v → given c.label to row a b ≡ cond v (g.label from b) (g.label a b)) [
+        | true ↦ λ is. ap (λ (x : ℕ). given c.label to row x b) (eqb-true a to is) ∙ given_row g sound from c.label to b (unused.empty b)
+        | false ↦ λ isnt. given_others row c.label to a b (eqb-false a to isnt) ∙ stands.labels a b named
+      ] refl
+
+  pub stands_given : IsSound g → (mid : Content) → IsGiven c mid to (listing_of g.label g.made from) → IsContentOf mid (with_all_of g from to)
+  stands_given sound mid filled = record {
+    made = λ x is. stands.made x ((filled.names x).0 is);
+    reachable = λ x reachable. (filled.names x).1 (Walk-within (IsNamed c) (λ y subject. stands.reachable y (begins subject)) closed x reachable);
+    closed = λ a b is edge. (filled.names b).1 (closed a b ((filled.names a).0 is) edge);
+    labels = λ a b is. filled.labels a b ∙ labels sound a b ((filled.names a).0 is);
+    values = λ x is. filled.values x ∙ stands.values x ((filled.names x).0 is);
+  }
+
+-- the heap has what a subject holds a right over
+pub named_held : (c : Content) (g : ProtectionGraph) → IsContentOf c g → (x y : ℕ) → IsSubject g x → HasEdge g.label x y → IsNamed c y
+named_held c g stands x y subject edge = stands.closed x y (stands.reachable x (begins subject)) edge
+
 -- ---- the account is filled on the heap
 
 module _ (c mid : Content) (g : ProtectionGraph) (stands : IsContentOf c g) (p : Parking) (sound : IsSound g) (host : IsSubject g p.host) (user : IsSubject g p.user)
-    (none : denial_of g.label g.value p.host (key_of p) ≡ None) (unused : IsUnused c.label p) where
+    (none : denial_of g.label g.value p.host (key_of p) ≡ None) (unused : IsUnused c.label p.user p.account) where
   user_named : IsNamed c p.user
   user_named = stands.reachable p.user (begins user)
 
   account_named : IsNamed c p.account
   account_named =
       let key : Permits g.label g.value p.host (key_of p) = permits-no_denial g.label g.value p.host (key_of p) none in
-      stands.closed p.host p.account (stands.reachable p.host (begins host)) (HasEdge-holds g.label p.host p.account (only right.G) key.4 refl)
+      named_held c g stands p.host p.account host (HasEdge-holds g.label p.host p.account (only right.G) key.4 refl)
 
-  pub unused_here : IsUnused g.label p
-  unused_here = record {
-    empty = λ y. sym (stands.labels p.account y account_named) ∙ unused.empty y;
-    apart = sym (stands.labels p.user p.account user_named) ∙ unused.apart;
-  }
+  pub unused_here : IsUnused g.label p.user p.account
+  unused_here = unused_on_graph c g stands p.user p.account user_named account_named unused
 
   abbrev row : List (ℕ × RightSet)
   row = listing_of g.label g.made p.user
-
-  closed : (a b : ℕ) → IsNamed c a → HasEdge (with_account g p).label a b → IsNamed c b
-  closed a b named edge =
-      elim (a == p.account) as (λ v. is_none_held (cond v (g.label p.user b) (g.label a b)) ≡ false → IsNamed c b) [
-        | true ↦ λ there. stands.closed p.user b user_named there
-        | false ↦ λ there. stands.closed a b named there
-      ] edge
-
-  labels : (a b : ℕ) → IsNamed c a → given c.label p.account row a b ≡ (with_account g p).label a b
-  labels a b named =
-      elim (a == p.account) as (λ v. (a == p.account) ≡ v → given c.label p.account row a b ≡ cond v (g.label p.user b) (g.label a b)) [
-        | true ↦ λ is.
-            ap (λ (x : ℕ). given c.label p.account row x b) (eqb-true a p.account is)
-            ∙ given_own row c.label p.account (g.label p.user) b (row_edges g.made 0 (g.label p.user)) (inl (unused.empty b))
-            ∙ elim (has_name b row) as (λ v. has_name b row ≡ v → cond v (g.label p.user b) (c.label p.account b) ≡ g.label p.user b) [
-              | true ↦ λ _. refl
-              | false ↦ λ isnt. unused.empty b ∙ sym (not_in_row g p sound host user none unused_here b isnt)
-            ] refl
-        | false ↦ λ isnt. given_others row c.label p.account a b (eqb-false a p.account isnt) ∙ stands.labels a b named
-      ] refl
-
-  pub stands_filled : IsGiven c mid p.account row → IsContentOf mid (with_account g p)
-  stands_filled filled = record {
-    made = λ x is. stands.made x ((filled.names x).0 is);
-    reachable = λ x reachable. (filled.names x).1 (Walk-within (IsNamed c) (λ y subject. stands.reachable y (begins subject)) closed x reachable);
-    closed = λ a b is edge. (filled.names b).1 (closed a b ((filled.names a).0 is) edge);
-    labels = λ a b is. filled.labels a b ∙ labels a b ((filled.names a).0 is);
-    values = λ x is. filled.values x ∙ stands.values x ((filled.names x).0 is);
-  }
 
   -- and then the user leaves
   pub stands_parked : (new : Content) → ((h : ProtectionGraph) → IsContentOf mid h → IsSubject h p.user → IsLegal h (map (removal p.user) row) → IsContentOf new (graph_after_leave h p.user row))
@@ -220,7 +220,7 @@ module _ (c mid : Content) (g : ProtectionGraph) (stands : IsContentOf c g) (p :
       (ap (λ (es : List (ℕ × RightSet)). graph_after_leave k p.user es) (sym listing)
       ∙ sym (graph_after-push k (map (removal p.user) (listing_of k.label k.made p.user)) (retiring p.user))
       ∙ graph_left k p.user k_sound user)
-      (left k (stands_filled filled) user legal)
+      (left k (stands_given c g stands p.user p.account user_named account_named unused sound mid filled) user legal)
 
 -- ---- the journal has room
 
@@ -253,9 +253,10 @@ module _ (s : Sides) (row : List (ℕ × RightSet)) (old new : HeapState) (befor
   }
   parks_some is (Err fault) refused = tt
 
-  pub keeps_roomy : (r : Result Parked ParkFault) → OnErr r (KeepsContent old new mid after) → OnErr r (KeepsContent old new before after)
-  keeps_roomy (Ok came) kept = tt
-  keeps_roomy (Err fault) kept = record { entries = kept.entries ∙ same; content = kept.content; subjects = kept.subjects; limits = kept.limits }
+-- the same where nothing was parked
+pub keeps_roomy : (old new : HeapState) (before mid after : Entries) → mid.entries ≡ before.entries → (r : Result Parked ParkFault) → OnErr r (KeepsContent old new mid after) → OnErr r (KeepsContent old new before after)
+keeps_roomy old new before mid after same (Ok came) kept = tt
+keeps_roomy old new before mid after same (Err fault) kept = record { entries = kept.entries ∙ same; content = kept.content; subjects = kept.subjects; limits = kept.limits }
 
 -- what is so whatever was refused
 pub when_refused : {T E : Type 0} {P : Type 0} (r : Result T E) → P → OnErr r P
@@ -265,6 +266,42 @@ when_refused (Err e) is = is
 -- a heap that is as it was, and a journal with the same entries
 pub keeps_all : (heap : HeapState) (before after : Entries) → after.entries ≡ before.entries → KeepsContent heap heap before after
 keeps_all heap before after same = record { entries = same; content = IsSameContent-self (content_of heap); subjects = refl; limits = refl }
+
+-- ---- a key that is denied
+
+-- what is decided of a command is decided of the key that it is
+pub key_denial : (c : Content) (x : ℕ) (command key : Command) (denial : Option Denial) → command ≡ key → denial ≡ denial_of c.label c.value x command → denial_of c.label c.value x key ≡ denial
+key_denial c x command key denial same decided = ap (λ (k : Command). denial_of c.label c.value x k) (sym same) ∙ sym decided
+
+module _ (old new : StoreState) (made : ℕ) (is : IsStore old made) (x : ℕ) (subject : IsSubject (graph_of_store old) x) (key : Command)
+    (opening : new.opening ≡ old.opening) (before after : List Entry) (before_is : before ≡ old.entries) (after_is : new.entries ≡ after)
+    (denial : Denial) (denied : IsKeyDeniedOnHeap key x old.heap new.heap before after denial) where
+  abbrev at : ProtectionGraph
+  at = graph_of_store old
+
+  on_graph : denial_of at.label at.value x key ≡ Some denial
+  on_graph = sym (denial_of-stands (content_of old.heap) at is.faithful.stands x key subject) ∙ denied.denied
+
+  stays : step at x (Plain key) ≡ at
+  stays = step-denied at x key denial on_graph
+
+  entry : Enters old new x (Plain key) (reply.Denied denial)
+  entry = after_is ∙ denied.entry ∙ ap (λ (es : List Entry). es ++ (record { worker = x; deed = Plain key; reply = reply.Denied denial }) ∷ []) before_is
+
+  pub IsStore-denied : IsStore new made
+  IsStore-denied =
+      IsStore-entered old new x (Plain key) (reply.Denied denial) opening entry made is.faithful subject tt
+      (sym (answer-denied at x key denial on_graph))
+      (subst (λ (k : ProtectionGraph). IsContentOf (content_of new.heap) k) (sym stays) (subst (λ (h : HeapState). IsContentOf (content_of h) at) (sym denied.heap) is.faithful.stands))
+      (ap subject_names denied.heap ∙ is.faithful.subjects ∙ ap (λ (k : ProtectionGraph). k.subjects) (sym stays))
+      (is.is_made ∙ ap (λ (k : ProtectionGraph). k.made) (sym stays))
+
+  pub comes_denied : new.handed ≡ old.handed → new.collections ≡ old.collections → IsKeyDenied key x old new denial
+  comes_denied handed_out collections = record {
+    denied = on_graph;
+    entry = record { entry = entry; opening = opening; handed = handed_out; heap = denied.heap; collections = collections };
+    graph = graph-entered old new x (Plain key) (reply.Denied denial) opening entry ∙ stays;
+  }
 
 -- ---- a store
 
@@ -289,7 +326,7 @@ module _ (old new : StoreState) (made : ℕ) (is : IsStore old made) (s : Sides)
     served : denial_of graph.label graph.value p.host (key_of p) ≡ None
     served = sym (denial_of-stands content graph is.faithful.stands p.host (key_of p) host) ∙ done.served
 
-    unused : IsUnused graph.label p
+    unused : IsUnused graph.label p.user p.account
     unused = unused_here content done.middle graph is.faithful.stands p sound host user served done.unused
 
     entries : new.entries ≡ old.entries ++ parking graph p
@@ -331,43 +368,17 @@ module _ (old new : StoreState) (made : ℕ) (is : IsStore old made) (s : Sides)
       collections = collections;
     }
 
-  -- ---- denied
-
-  module _ (denial : Denial) (denied : IsParkingDeniedOnHeap s old.heap new.heap before after denial) where
-    on_graph : denial_of graph.label graph.value p.host (key_of p) ≡ Some denial
-    on_graph = sym (denial_of-stands content graph is.faithful.stands p.host (key_of p) host) ∙ denied.denied
-
-    stays : step graph p.host (Plain (key_of p)) ≡ graph
-    stays = step-denied graph p.host (key_of p) denial on_graph
-
-    entry : Enters old new p.host (Plain (key_of p)) (reply.Denied denial)
-    entry = after_is ∙ denied.entry ∙ ap (λ (es : List Entry). es ++ (record { worker = p.host; deed = Plain (key_of p); reply = reply.Denied denial }) ∷ []) before_is
-
-    IsStore-denied : IsStore new made
-    IsStore-denied =
-        IsStore-entered old new p.host (Plain (key_of p)) (reply.Denied denial) opening entry made is.faithful host tt
-        (sym (answer-denied graph p.host (key_of p) denial on_graph))
-        (subst (λ (k : ProtectionGraph). IsContentOf (content_of new.heap) k) (sym stays) (subst (λ (h : HeapState). IsContentOf (content_of h) graph) (sym denied.heap) is.faithful.stands))
-        (ap subject_names denied.heap ∙ is.faithful.subjects ∙ ap (λ (k : ProtectionGraph). k.subjects) (sym stays))
-        (is.is_made ∙ ap (λ (k : ProtectionGraph). k.made) (sym stays))
-
-    comes_denied : IsParkingDenied p old new denial
-    comes_denied = record {
-      denied = on_graph;
-      entry = record { entry = entry; opening = opening; handed = handed_out; heap = denied.heap; collections = collections };
-      graph = graph-entered old new p.host (Plain (key_of p)) (reply.Denied denial) opening entry ∙ stays;
-    }
-
   -- ---- either
 
   module _ (row : List (ℕ × RightSet)) (row_is : row ≡ listing_of graph.label graph.made p.user) where
     pub IsStore-parked : (came : Parked) → ParksOnHeap s row old.heap new.heap before after came → IsStore new made
     IsStore-parked (Done count) done = IsStore-done row row_is count done
-    IsStore-parked (Denied denial) denied = IsStore-denied denial denied
+    IsStore-parked (Denied denial) denied = IsStore-denied old new made is p.host host (key_of p) opening before.entries after.entries before_is after_is denial denied
 
     pub comes_of_parking : (came : Parked) → ParksOnHeap s row old.heap new.heap before after came → ComesOfParking p old new came
     comes_of_parking (Done count) done = comes_done row row_is count done
-    comes_of_parking (Denied denial) denied = comes_denied denial denied
+    comes_of_parking (Denied denial) denied =
+        comes_denied old new made is p.host host (key_of p) opening before.entries after.entries before_is after_is denial denied handed_out collections
 
 -- an edge of the heap is one of the graph
 edge_here : (s : StoreState) → IsFaithful s → (a b : ℕ) → HasEdge (content_of s.heap).label a b → HasEdge (graph_of_store s).label a b
@@ -377,10 +388,10 @@ edge_here s faithful a b edge =
     (λ unnamed. absurd (false≢true (sym edge ∙ ap is_none_held (OnlyNamedHold-content_of s.heap a unnamed b))))
     (contains (content_of s.heap).names a)
 
--- an account that is in use on the heap is so on the graph
-pub in_use_here : (s : StoreState) (p : Parking) → IsFaithful s → IsInUse (content_of s.heap).label p → IsInUse (graph_of_store s).label p
-in_use_here s p faithful (inl (y, edge)) = inl (y, edge_here s faithful p.account y edge)
-in_use_here s p faithful (inr edge) = inr (edge_here s faithful p.user p.account edge)
+-- what is in use on the heap is so on the graph
+pub in_use_here : (s : StoreState) (from to : ℕ) → IsFaithful s → IsInUse (content_of s.heap).label from to → IsInUse (graph_of_store s).label from to
+in_use_here s from to faithful (inl (y, edge)) = inl (y, edge_here s faithful to y edge)
+in_use_here s from to faithful (inr edge) = inr (edge_here s faithful from to edge)
 
 -- the row that the heap lists is the graph's
 pub row_listed : (s : StoreState) → IsFaithful s → (x : ℕ) → IsSubject (graph_of_store s) x → (row : List (ℕ × RightSet)) → IsRowOf (content_of s.heap) x row → row ≡ listing_of (graph_of_store s).label (graph_of_store s).made x

@@ -3,6 +3,7 @@ pub mod Answering
 pub mod Entering
 pub mod Handing
 pub mod Parking
+pub mod Unparking
 pub mod Reaching
 pub mod Saving
 pub mod Withdrawing

@@ -11,6 +11,7 @@ pub mod Made
 pub mod Leaving
 pub mod Handing
 pub mod Parking
+pub mod Unparking
 pub mod Withdrawing
 pub mod Holding
 pub mod Seeing

@@ -44,18 +44,22 @@ parking g p = filling p (listing_of g.label g.made p.user) ++ leaving g p.user
 
 -- ---- the graph
 
+-- the graph in which one vertex holds exactly what another holds
+abbrev pub with_all_of : ProtectionGraph → ℕ → ℕ → ProtectionGraph
+with_all_of g from to = record g { label = λ a b. if a == to then g.label from b else g.label a b }
+
 -- the graph in which the account holds what the user holds, and nothing else
 abbrev pub with_account : ProtectionGraph → Parking → ProtectionGraph
-with_account g p = record g { label = λ a b. if a == p.account then g.label p.user b else g.label a b }
+with_account g p = with_all_of g p.user p.account
 
 -- The graph afterwards: the account holds what the user held, and the user has left.
 abbrev pub parked : ProtectionGraph → Parking → ProtectionGraph
 parked g p = left_by (with_account g p) p.user
 
--- the account holds nothing, and the user has no edge to it
-pub record IsUnused (label : ℕ → ℕ → RightSet) (p : Parking) : Type 0 where
-  pub empty : (y : ℕ) → label p.account y ≡ no_rights
-  pub apart : label p.user p.account ≡ no_rights
+-- The second vertex, which is to hold what the first one holds, holds nothing yet, and the first one has no edge to it.
+pub record IsUnused (label : ℕ → ℕ → RightSet) (from to : ℕ) : Type 0 where
+  pub empty : (y : ℕ) → label to y ≡ no_rights
+  pub apart : label from to ≡ no_rights
 
 -- Where the host may park the user: the three are different, and the host holds grant over the user and over the account.
 pub record MayPark (g : ProtectionGraph) (p : Parking) : Type 0 where
@@ -68,7 +72,7 @@ pub record MayPark (g : ProtectionGraph) (p : Parking) : Type 0 where
 -- The user is parked: exactly these entries were added, and the store represents the graph afterwards.
 pub record IsParked (p : Parking) (old new : StoreState) (edges : ℕ) : Type 0 where
   pub allowed : MayPark (graph_of_store old) p
-  pub unused : IsUnused (graph_of_store old).label p
+  pub unused : IsUnused (graph_of_store old).label p.user p.account
   pub count : edges ≡ length (listing_of (graph_of_store old).label (graph_of_store old).made p.user)
   pub entries : new.entries ≡ old.entries ++ parking (graph_of_store old) p
   pub legal : IsLegal (graph_of_store old) (parking (graph_of_store old) p)
@@ -78,22 +82,22 @@ pub record IsParked (p : Parking) (old new : StoreState) (edges : ℕ) : Type 0 
   pub limits : new.heap.table.limits ≡ old.heap.table.limits
   pub collections : new.collections ≡ old.collections
 
--- The host's grant was denied: exactly its entry was added, and nothing else changed.
-pub record IsParkingDenied (p : Parking) (old new : StoreState) (denial : Denial) : Type 0 where
-  pub denied : denial_in (graph_of_store old) p.host (key_of p) ≡ Some denial
-  pub entry : OnlyEnters old new p.host (Plain (key_of p)) (reply.Denied denial)
+-- The host's grant of a key was denied: exactly its entry was added, and nothing else changed.
+pub record IsKeyDenied (key : Command) (host : ℕ) (old new : StoreState) (denial : Denial) : Type 0 where
+  pub denied : denial_in (graph_of_store old) host key ≡ Some denial
+  pub entry : OnlyEnters old new host (Plain key) (reply.Denied denial)
   pub graph : graph_of_store new ≡ graph_of_store old
 
 -- what comes of parking
 abbrev pub ComesOfParking : Parking → StoreState → StoreState → Parked → Type 0
 ComesOfParking p old new (Done edges) = IsParked p old new edges
-ComesOfParking p old new (Denied denial) = IsParkingDenied p old new denial
+ComesOfParking p old new (Denied denial) = IsKeyDenied (key_of p) p.host old new denial
 
--- the account holds something already, or the user has an edge to it
-abbrev pub IsInUse : (ℕ → ℕ → RightSet) → Parking → Type 0
-IsInUse label p = ((y : ℕ) × HasEdge label p.account y) ⊎ HasEdge label p.user p.account
+-- the second vertex holds something already, or the first one has an edge to it
+abbrev pub IsInUse : (ℕ → ℕ → RightSet) → ℕ → ℕ → Type 0
+IsInUse label from to = ((y : ℕ) × HasEdge label to y) ⊎ HasEdge label from to
 
--- why a user wasn't parked, where room was refused
+-- why a user wasn't parked or unparked, where room was refused
 abbrev pub park_fault_of : RoomFault → ParkFault
 park_fault_of room.OutOfMemory = fault.OutOfMemory
 park_fault_of room.HeapFull = fault.HeapFull

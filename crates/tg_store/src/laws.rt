@@ -11,6 +11,7 @@ ghost use Rattle.tg_store.specs.declared.handing.Hand.{Hand};
 ghost use Rattle.tg_store.specs.Handing.{MayHand, denied_in_hand};
 ghost use Rattle.tg_store.specs.declared.parking.Parking.{Parking};
 ghost use Rattle.tg_store.specs.Parking.{parked};
+ghost use Rattle.tg_store.specs.Unparking.{MayUnpark, unparked};
 ghost use Rattle.tg_store.specs.Store.{StandsFor};
 ghost use Rattle.tg_store.specs.Withdrawing.{AreHoldersOfSome, withdrawn};
 
@@ -57,4 +58,28 @@ pub fn parking_moves_what_the_user_held()
     ensures labels { (g : ProtectionGraph) (p : Parking) (x y : ℕ) → x ≢ p.account → x ≢ p.user → (parked g p).label x y ≡ g.label x y }
     ensures subjects { (g : ProtectionGraph) (p : Parking) (x : ℕ) → x ≢ p.user → IsSubject (parked g p) x ↔ IsSubject g x }
     ensures rest { (g : ProtectionGraph) (p : Parking) → ((parked g p).made ≡ g.made) × ((parked g p).value ≡ g.value) }
+{}
+
+/// What unparking does to labels, in plain words. The user holds exactly what the account holds, and the host holds
+/// nothing over the account. If only the host held a right over the account, then nobody holds one. Each other label of
+/// another vertex than the user stays, and all else does.
+pub fn unparking_gives_what_the_account_holds()
+    ensures user { (g : ProtectionGraph) (p : Parking) (y : ℕ) → (unparked g p).label p.user y ≡ g.label p.account y }
+    ensures host { (g : ProtectionGraph) (p : Parking) → p.host ≢ p.user → (unparked g p).label p.host p.account ≡ no_rights }
+    ensures left { (g : ProtectionGraph) (p : Parking) → MayUnpark g p → ((x : ℕ) → x ≢ p.host → g.label x p.account ≡ no_rights) →
+        (x : ℕ) → (unparked g p).label x p.account ≡ no_rights }
+    ensures labels { (g : ProtectionGraph) (p : Parking) (x y : ℕ) → x ≢ p.user → (x ≢ p.host) ⊎ (y ≢ p.account) → (unparked g p).label x y ≡ g.label x y }
+    ensures rest { (g : ProtectionGraph) (p : Parking) →
+        ((unparked g p).subjects ≡ g.subjects) × ((unparked g p).made ≡ g.made) × ((unparked g p).value ≡ g.value) }
+{}
+
+/// A user is parked (p) on one graph, and a new user is unparked (q) from the same account on a later graph, on which
+/// the account holds what the parking left in it. Then the new user holds exactly what the old one held. Suppose that a
+/// label of another vertex than the two users and the account is as the parking left it. Then the unparking leaves it
+/// as it was before the parking, except that the host holds nothing over the account.
+pub fn who_comes_back_holds_what_was_parked()
+    ensures user { (g h : ProtectionGraph) (p q : Parking) → p.user ≢ p.account → q.account ≡ p.account →
+        ((y : ℕ) → h.label p.account y ≡ (parked g p).label p.account y) → (y : ℕ) → (unparked h q).label q.user y ≡ g.label p.user y }
+    ensures others { (g h : ProtectionGraph) (p q : Parking) (x y : ℕ) → x ≢ p.account → x ≢ p.user → x ≢ q.user → (x ≢ q.host) ⊎ (y ≢ q.account) →
+        h.label x y ≡ (parked g p).label x y → (unparked h q).label x y ≡ g.label x y }
 {}

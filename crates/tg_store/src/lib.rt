@@ -11,6 +11,7 @@
 //! next graph by the rules. [`Store::create`] and [`Store::spawn`] do the same. [`Store::apply_all`] takes several
 //! commands of one worker in a row. [`Store::hand`] hands rights on by up to three commands, completely or not at all.
 //! [`Store::park`] puts all that a subject holds into an account, and the subject leaves, completely or not at all.
+//! [`Store::unpark`] lets a new subject take out what an account holds, completely or not at all.
 //!
 //! ```text
 //!     opening --deeds of the journal--> graph        every reply is by this graph, and no collection changes it
@@ -49,10 +50,12 @@ mod leaving;
 mod making;
 mod origin;
 mod parking;
+mod pouring;
 mod seen;
 mod store;
 mod store_fault;
 mod tallied;
+mod unparking;
 
 pub use batch::{BatchFault, MOST_BATCH};
 pub use census::{Census, Collections, Refusals};

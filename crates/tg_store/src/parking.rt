@@ -1,19 +1,18 @@
 //! How what a subject holds is put into an account, on the heap and in the journal.
-ghost use Rattle.std.specs.Prelude.{◌≡◌, ◌≢◌, ◌≤◌, ◌+◌, ◌++◌, ◌↔◌, Err, IfOk, IfSome, IsSome, IsTrue, None, OnErr, OnOk, false, length, map};
-ghost use Rattle.std.specs.List.{All};
-ghost use Rattle.tg_rights.specs.RightSet.{only};
-ghost use Rattle.tg_model.specs.Graph.{HasEdge, with_rights};
+ghost use Rattle.std.specs.Prelude.{◌≡◌, ◌≢◌, ◌≤◌, ◌+◌, ◌++◌, ◌↔◌, Err, IfOk, IfSome, IsSome, None, OnErr, false, length, map};
+ghost use Rattle.tg_rights.specs.RightSet.{is_none_held, only};
+ghost use Rattle.tg_model.specs.Graph.{HasEdge};
 ghost use Rattle.tg_model.specs.Rules.{denial_of};
-ghost use Rattle.tg_rows.specs.Content.{IsContent, IsNamed};
 ghost use Rattle.tg_rows.specs.Rows.{IsVertexAt};
-ghost use Rattle.tg_graph.specs.Heap.{IsActive, IsObject, KeepsPlaces, content_of, name_of};
+ghost use Rattle.tg_graph.specs.Heap.{IsActive, content_of};
 ghost use Rattle.tg_rules.specs.Verdict.{HasSubject};
-ghost use Rattle.tg_store.specs.Parking.{IsInUse, IsUnused, filling, key_of, putting};
-ghost use Rattle.tg_store.specs.Inner.Parking.{IsGiven, IsGivenUpAgain, IsRowOf, IsTakenBack, KeepsContent, ParksOnHeap, ParksSomeRow, parking_of};
+ghost use Rattle.tg_store.specs.Parking.{IsInUse, filling, key_of, putting};
+ghost use Rattle.tg_store.specs.Inner.Parking.{IsRowOf, KeepsContent, ParksOnHeap, ParksSomeRow, parking_of};
 
 use crate::answer::deny;
 use crate::handing::done_by;
 use crate::leaving::{leave_heap, removal};
+use crate::pouring::{Pouring, Site, is_unused, pour};
 use crate::tallied::TalliedJournal;
 use std::alloc::AllocError;
 use tg_graph::Heap;
@@ -26,42 +25,45 @@ use tg_subjects::Subject;
 use tg_word::Place;
 use thiserror::Error;
 
-/// A user whom a host parks by [`Store::park`](crate::Store::park). What the user holds goes into an account, and the
-/// user leaves. The host and the user are active subjects. The account is a vertex that holds nothing yet, such as an
-/// object that the host has just made.
+/// A user whom a host parks by [`Store::park`](crate::Store::park), or unparks by
+/// [`Store::unpark`](crate::Store::unpark). A park puts what the user holds into an account, and the user leaves. An
+/// unpark lets a new user take out what the account holds. The host and the user are active subjects. The one that gets
+/// the edges, the account or the new user, holds nothing yet.
 #[derive(Clone, Copy, PartialEq, Eq, Debug)]
 pub struct Parking {
-    /// The worker who holds grant over the user and over the account.
+    /// The worker who holds grant over the user. It holds grant over the account to park, and take to unpark.
     pub host: u64,
-    /// The worker who leaves.
+    /// The worker who leaves, or the new worker who takes the edges out.
     pub user: u64,
-    /// The vertex that is to hold what the user holds.
+    /// The vertex that is to hold what the user holds, or that holds what the user is to get.
     pub account: u64,
 }
 
-/// The answer to a parking that isn't refused.
+/// The answer to a parking or an unparking that isn't refused.
 #[derive(Clone, Copy, PartialEq, Eq, Debug)]
 pub enum Parked {
-    /// The account holds what the user held, and the user has left. `edges` is the number of edges of the user.
+    /// After a park the account holds what the user held, and the user has left. After an unpark the user holds what
+    /// the account holds. `edges` is the number of edges that were put in or taken out.
     Done { edges: u64 },
     /// The host's grant over the account to the user is denied, for this reason. Its entry is the only one, and nothing
     /// else changed.
     Denied(Denial),
 }
 
-/// Why a user was not parked. The store then represents the same graph, with no entry.
+/// Why a user was not parked or unparked. The store then represents the same graph, with no entry.
 #[derive(Clone, Copy, PartialEq, Eq, Debug, Error)]
 pub enum ParkFault {
     /// The host or the user is no worker.
     #[error("no such worker")]
     NoSuchWorker,
-    /// The account holds some right already, or the user holds a right over it.
-    #[error("the account is in use: make a new object, over which only the host has rights")]
+    /// To park: the account holds some right already, or the user holds a right over it. To unpark: the user holds some
+    /// right already, or the account holds a right over it.
+    #[error("in use: park into a new object, over which only the host has rights, and unpark for a new subject")]
     InUse,
-    /// There was no memory for the entries, the listing of the user's edges, or a block.
+    /// There was no memory for the entries, the listing of the edges, or a block.
     #[error("out of memory")]
     OutOfMemory,
-    /// The nursery of the user has no cell left for a reference of the account, and gets no more blocks.
+    /// The nursery of the user has no cell left for a reference that is added, and gets no more blocks.
     #[error("heap full")]
     HeapFull,
 }
@@ -92,7 +94,7 @@ impl From<RoomFault> for ParkFault {
 }
 
 impl Parking {
-    // The grant with which it begins.
+    // The grant with which a parking begins.
     fn key(&self) -> Command
         ensures { result ≡ key_of self.now }
     {
@@ -125,7 +127,7 @@ fn grant_alone() -> Label
     }
 }
 
-// The two subjects of a parking that were looked up, and the name of the account.
+/// The two subjects of a parking that were looked up, and the name of the account.
 #[derive(Clone, Copy)]
 pub(crate) struct Sides {
     pub(crate) host: Subject,
@@ -134,8 +136,8 @@ pub(crate) struct Sides {
 }
 
 impl Sides {
-    // The parking by names.
-    fn parking(&self) -> Parking
+    /// The parking by names.
+    pub(crate) fn parking(&self) -> Parking
         ensures { result ≡ parking_of self.now }
     {
         Parking {
@@ -176,7 +178,7 @@ pub(crate) fn park_on<P: Payload>(
     ensures start { journal.new.start ≡ journal.old.start }
     ensures refused { OnErr result (KeepsContent heap.old heap.new journal.old journal.new) }
     ensures worker { result ≢ Err ParkFault.NoSuchWorker }
-    ensures in_use { result ≡ Err ParkFault.InUse → IsInUse (content_of heap.old).label (parking_of sides.now) }
+    ensures in_use { result ≡ Err ParkFault.InUse → IsInUse (content_of heap.old).label sides.now.user.name sides.now.account }
 {
     let row = heap.row(sides.user.place)?;
     let count = row.as_slice().len();
@@ -199,7 +201,7 @@ fn decide_parking<P: Payload>(
     ensures start { journal.new.start ≡ journal.old.start }
     ensures refused { OnErr result (KeepsContent heap.old heap.new journal.old journal.new) }
     ensures worker { result ≢ Err ParkFault.NoSuchWorker }
-    ensures in_use { result ≡ Err ParkFault.InUse → IsInUse (content_of heap.old).label (parking_of sides.now) }
+    ensures in_use { result ≡ Err ParkFault.InUse → IsInUse (content_of heap.old).label sides.now.user.name sides.now.account }
 {
     let parking = sides.parking();
     let key = parking.key();
@@ -228,102 +230,63 @@ fn serve_parking<P: Payload>(
     ensures start { journal.new.start ≡ journal.old.start }
     ensures refused { OnErr result (KeepsContent heap.old heap.new journal.old journal.new) }
     ensures worker { result ≢ Err ParkFault.NoSuchWorker }
-    ensures in_use { result ≡ Err ParkFault.InUse → IsInUse (content_of heap.old).label (parking_of sides.now) }
+    ensures in_use { result ≡ Err ParkFault.InUse → IsInUse (content_of heap.old).label sides.now.user.name sides.now.account }
 {
-    let account = account_place(heap, sides);
-    let unused = is_unused(heap, sides, account)?;
+    let account = find_account(heap, sides);
+    let pouring = Pouring {
+        worker: sides.user,
+        from: Site {
+            name: sides.user.name,
+            place: sides.user.place,
+        },
+        to: Site {
+            name: sides.account,
+            place: account.place,
+        },
+    };
+    let unused = is_unused(heap, &pouring)?;
     if !unused {
         return Err(ParkFault::InUse);
     }
-    pour(heap, sides.user, account, row.as_slice())?;
+    pour(heap, &pouring, row.as_slice())?;
     enter_filling(journal, &sides.parking(), row.as_slice());
     leave_heap(heap, journal, sides.user, row);
     let edges = row.as_slice().len() as u64;
     Ok(Parked::Done { edges })
 }
 
-// Where the account is, to which the host has an edge.
-fn account_place<P: Payload>(heap: &Heap<P>, sides: &Sides) -> Place
+/// The account, to which the host has an edge.
+#[derive(Clone, Copy)]
+pub(crate) struct Account {
+    pub(crate) place: Place,
+    // What the host holds over it.
+    pub(crate) held: Label,
+}
+
+/// Looks up the account, to which the host has an edge.
+pub(crate) fn find_account<P: Payload>(heap: &Heap<P>, sides: &Sides) -> Account
     requires host { HasSubject heap.now sides.now.host }
-    requires edge { HasEdge (content_of heap.now).label (name_of heap.now sides.now.host.place) sides.now.account }
-    ensures { IsVertexAt heap.now.table.spaces sides.now.account result }
+    requires edge { HasEdge (content_of heap.now).label sides.now.host.name sides.now.account }
+    ensures place { IsVertexAt heap.now.table.spaces sides.now.account result.place }
+    ensures held { result.held ≡ (content_of heap.now).label sides.now.host.name sides.now.account }
 {
     match heap.find_edge(sides.host.place, sides.account) {
-        Some(found) => found.place,
+        Some(found) => Account {
+            place: found.place,
+            held: label_with(found.rights),
+        },
         None => unreachable!(),
     }
 }
 
-// Whether the account at a place holds nothing, and the user has no edge to it. Fails only when out of memory.
-fn is_unused<P: Payload>(heap: &Heap<P>, sides: &Sides, account: Place) -> Result<bool, AllocError>
-    requires user { HasSubject heap.now sides.now.user }
-    requires account { IsVertexAt heap.now.table.spaces sides.now.account account }
-    ensures unused { IfOk result (λ unused. IsTrue unused → IsUnused (content_of heap.now).label (parking_of sides.now)) }
-    ensures in_use { IfOk result (λ unused. unused ≡ false → IsInUse (content_of heap.now).label (parking_of sides.now)) }
+// The label of rights, of which there is at least one.
+fn label_with(rights: Rights) -> Label
+    requires { is_none_held rights ≡ false }
+    ensures { result ≡ rights }
 {
-    let row = heap.row(account)?;
-    if !row.as_slice().is_empty() {
-        return Ok(false);
-    }
-    match heap.find_edge(sides.user.place, sides.account) {
-        Some(_) => Ok(false),
-        None => Ok(true),
-    }
-}
-
-// Gives the vertex at a place each edge of a row of the user, in the order of the list. If one is refused, it takes all
-// of them back.
-fn pour<P: Payload>(
-    heap: &mut Heap<P>,
-    user: Subject,
-    account: Place,
-    row: &[(u64, Label)],
-) -> Result<(), RoomFault>
-    requires user { HasSubject heap.old user }
-    requires account { IsObject heap.old account }
-    requires apart { user.name ≢ name_of heap.old account }
-    requires edges { All (λ e. HasEdge (content_of heap.old).label user.name e.0) row.now }
-    ensures poured { OnOk result (IsGiven (content_of heap.old) (content_of heap.new) (name_of heap.old account) row.now) }
-    ensures refused { OnErr result (IsGivenUpAgain (content_of heap.old) (content_of heap.new) (name_of heap.old account) row.now) }
-    ensures kept { KeepsPlaces heap.old heap.new }
-{
-    for edge in row {
-        if let Err(fault) = give_edge(heap, user, account, *edge) {
-            take_back(heap, account, row);
-            return Err(fault);
-        }
-    }
-    Ok(())
-}
-
-// Gives the vertex at a place an edge of the user.
-fn give_edge<P: Payload>(
-    heap: &mut Heap<P>,
-    user: Subject,
-    account: Place,
-    edge: (u64, Label),
-) -> Result<(), RoomFault>
-    requires user { HasSubject heap.old user }
-    requires account { IsObject heap.old account }
-    requires edge { HasEdge (content_of heap.old).label (name_of heap.old user.place) edge.0 }
-    ensures given { OnOk result (IsContent (content_of heap.new) (IsNamed (content_of heap.old)) (with_rights (content_of heap.old).label (name_of heap.old account) edge.0 edge.1) (content_of heap.old).value) }
-    ensures kept { OnOk result (KeepsPlaces heap.old heap.new) }
-    ensures refused { OnErr result (heap.new ≡ heap.old) }
-{
-    match heap.find_edge(user.place, edge.0) {
-        Some(found) => heap.add_edge_as(user, account, found.place, edge.1),
+    match Label::new(rights) {
+        Some(label) => label,
         None => unreachable!(),
-    }
-}
-
-// Takes the edges of a list from the vertex at a place, as far as it has them.
-fn take_back<P: Payload>(heap: &mut Heap<P>, account: Place, row: &[(u64, Label)])
-    requires account { IsObject heap.old account }
-    ensures taken { IsTakenBack (content_of heap.old) (content_of heap.new) (name_of heap.old account) row.now }
-    ensures kept { KeepsPlaces heap.old heap.new }
-{
-    for edge in row {
-        heap.drop_rights(account, edge.0, edge.1);
     }
 }
 

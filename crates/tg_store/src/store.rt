@@ -12,6 +12,7 @@ mod park;
 mod picture;
 mod reopen;
 mod snapshot;
+mod unpark;
 mod withdraw;
 mod withdrawal;
 

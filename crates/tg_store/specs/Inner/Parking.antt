@@ -2,11 +2,13 @@
 use Rattle.std.specs.Prelude.{◌≡◌, ◌<◌, ◌++◌, ◌∷◌, [], ℕ, List, None, Some, length, map, take}
 use Rattle.std.specs.List.{All}
 use Rattle.tg_rights.specs.RightSet.{RightSet}
+use Rattle.tg_model.specs.declared.command.Command.{Command}
 use Rattle.tg_model.specs.declared.command.Deed.TheVariants.{Plain}
 use Rattle.tg_model.specs.declared.reply.Denial.{Denial}
 use Rattle.tg_model.specs.declared.reply.Reply.TheVariants as reply
 use Rattle.tg_model.specs.Graph.{ProtectionGraph, IsSubject, listing_of, with_rights, without_rights, without_subject}
 use Rattle.tg_model.specs.Rules.{denial_of}
+use Rattle.tg_journal.specs.declared.entry.Entry.{Entry}
 use Rattle.tg_journal.specs.History.{IsLegal}
 use Rattle.tg_journal.specs.Journal.{Entries}
 use Rattle.tg_rows.specs.Content.{Content, IsContent, IsNamed, IsSameContent}
@@ -49,7 +51,7 @@ parking_of s = record { host = s.host.name; user = s.user.name; account = s.acco
 -- a user was parked on the heap
 pub record IsParkedOnHeap (s : Sides) (row : List (ℕ × RightSet)) (old new : HeapState) (before after : Entries) (edges : ℕ) : Type 0 where
   pub served : denial_of (content_of old).label (content_of old).value s.host.name (key_of (parking_of s)) ≡ None
-  pub unused : IsUnused (content_of old).label (parking_of s)
+  pub unused : IsUnused (content_of old).label s.user.name s.account
   pub count : edges ≡ length row
   pub entries : after.entries ≡ (before.entries ++ filling (parking_of s) row) ++ map (removal s.user.name) row ++ retiring s.user.name ∷ []
   pub middle : Content
@@ -59,16 +61,16 @@ pub record IsParkedOnHeap (s : Sides) (row : List (ℕ × RightSet)) (old new : 
   pub subjects : subject_names new ≡ without_subject (subject_names old) s.user.name
   pub limits : new.table.limits ≡ old.table.limits
 
--- the host's grant was denied
-pub record IsParkingDeniedOnHeap (s : Sides) (old new : HeapState) (before after : Entries) (denial : Denial) : Type 0 where
-  pub denied : denial_of (content_of old).label (content_of old).value s.host.name (key_of (parking_of s)) ≡ Some denial
-  pub entry : after.entries ≡ before.entries ++ (record { worker = s.host.name; deed = Plain (key_of (parking_of s)); reply = reply.Denied denial }) ∷ []
+-- the host's grant of a key was denied
+pub record IsKeyDeniedOnHeap (key : Command) (host : ℕ) (old new : HeapState) (before after : List Entry) (denial : Denial) : Type 0 where
+  pub denied : denial_of (content_of old).label (content_of old).value host key ≡ Some denial
+  pub entry : after ≡ before ++ (record { worker = host; deed = Plain key; reply = reply.Denied denial }) ∷ []
   pub heap : new ≡ old
 
 -- what came of parking on the heap
 abbrev pub ParksOnHeap : Sides → List (ℕ × RightSet) → HeapState → HeapState → Entries → Entries → Parked → Type 0
 ParksOnHeap s row old new before after (Done edges) = IsParkedOnHeap s row old new before after edges
-ParksOnHeap s row old new before after (Denied denial) = IsParkingDeniedOnHeap s old new before after denial
+ParksOnHeap s row old new before after (Denied denial) = IsKeyDeniedOnHeap (key_of (parking_of s)) s.host.name old new before.entries after.entries denial
 
 -- a list that is the listing of a row, whatever number is above all names
 abbrev pub IsRowOf : Content → ℕ → List (ℕ × RightSet) → Type 0

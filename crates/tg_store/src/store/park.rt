@@ -16,8 +16,8 @@ impl<P: Payload> Store<P> {
     ///
     /// The account is a vertex that holds nothing, such as an object that the host has just made with
     /// [`create`](Store::create). The host holds grant over the user and over the account. It needs take over the
-    /// account too if a subject is to take everything out later. Whoever else holds take over the account can take what
-    /// it holds, so the host alone should have rights over it.
+    /// account too if a new user is to take everything out later, by [`unpark`](Store::unpark). Whoever else holds take
+    /// over the account can take what it holds, so the host alone should have rights over it.
     ///
     /// Each command has an entry of its own, as if its worker had asked for it. The host grants the user grant over the
     /// account. The user grants the account each of its edges, by rising name, and removes its grant. Then the user
@@ -41,7 +41,7 @@ impl<P: Payload> Store<P> {
     pub fn park(&mut self, parking: Parking) -> Result<Parked, ParkFault>
         ensures comes { IfOk result (ComesOfParking parking self.old self.new) }
         ensures no_such_worker { (g : ProtectionGraph) → StandsFor self.old g → (result ≡ Err ParkFault.NoSuchWorker) ↔ (¬ (IsSubject g parking.host × IsSubject g parking.user)) }
-        ensures in_use { (g : ProtectionGraph) → StandsFor self.old g → result ≡ Err ParkFault.InUse → IsInUse g.label parking }
+        ensures in_use { (g : ProtectionGraph) → StandsFor self.old g → result ≡ Err ParkFault.InUse → IsInUse g.label parking.user parking.account }
         ensures refused { OnErr result (KeepsGraph self.old self.new) }
     {
         let Some(sides) = find_sides(&self.heap, &parking) else {

@@ -24,5 +24,5 @@ returns-clause-comes g c =
 
 pub returns-clause-refused : goal.returns-clause-refused
 returns-clause-refused g c =
-    keeps_roomy c.args.sides.now c.in_ok-row.row c.args.heap.now c.decide_parking.new.heap c.args.journal.now c.reserve_many.new.self c.decide_parking.new.journal c.reserve_many.ensures.entries
+    keeps_roomy c.args.heap.now c.decide_parking.new.heap c.args.journal.now c.reserve_many.new.self c.decide_parking.new.journal c.reserve_many.ensures.entries
     c.decide_parking.result c.decide_parking.ensures.refused

@@ -1,5 +1,5 @@
 -- The host holds grant over the account, so the heap has it. What is entered is what was done.
-use Rattle.std.proofs.Common.{◌≢◌, ◌∙◌, ◌++◌, ◌∷◌, [], ℕ, List, ap, refl, sym, subst, length, map, arith}
+use Rattle.std.proofs.Common.{◌∙◌, ◌++◌, ◌∷◌, [], ℕ, List, ap, refl, sym, subst, length, map, arith}
 use Rattle.tg_rights.specs.RightSet.{RightSet, only}
 use Rattle.tg_rights.specs.declared.Right.TheVariants as right
 use Rattle.tg_model.specs.Graph.{HasEdge, without_subject}
@@ -17,26 +17,19 @@ use Rattle.tg_store.specs.Inner.Parking.{IsGiven, IsGivenUpAgain, parking_of}
 use Rattle.tg_store.proofs.ParkLaws.{each_edge, listed_edges, same_again, subject_kept, when_refused}
 use Rattle.tg_store.proofs.parking.serve_parking.Goals as goal
 
-pub account_place-account-requires-clause-edge : goal.account_place-account-requires-clause-edge
-account_place-account-requires-clause-edge g c =
+pub find_account-account-requires-clause-edge : goal.find_account-account-requires-clause-edge
+find_account-account-requires-clause-edge g c =
     let content = content_of c.args.heap.now in
-    let s = c.args.sides.now in
-    let p = parking_of s in
+    let p = parking_of c.args.sides.now in
     let may : Permits content.label content.value p.host (key_of p) = permits-no_denial content.label content.value p.host (key_of p) c.requires.served in
-    subst (λ (x : ℕ). HasEdge content.label x s.account) (sym c.requires.host.vertex.named) (HasEdge-holds content.label s.host.name s.account (only right.G) may.4 refl)
-
-pub is_unused-requires-clause-account : goal.is_unused-requires-clause-account
-is_unused-requires-clause-account g c = c.account_place-account.ensures
-
-pub pour-requires-clause-account : goal.pour-requires-clause-account
-pour-requires-clause-account g c = c.account_place-account.ensures.object
+    HasEdge-holds content.label p.host p.account (only right.G) may.4 refl
 
 pub pour-requires-clause-apart : goal.pour-requires-clause-apart
 pour-requires-clause-apart g c =
     let content = content_of c.args.heap.now in
     let p = parking_of c.args.sides.now in
     let may : Permits content.label content.value p.host (key_of p) = permits-no_denial content.label content.value p.host (key_of p) c.requires.served in
-    subst (λ (x : ℕ). p.user ≢ x) (sym c.account_place-account.ensures.named) may.1
+    may.1
 
 pub pour-requires-clause-edges : goal.pour-requires-clause-edges
 pour-requires-clause-edges g c =
@@ -61,8 +54,7 @@ returns-in_err-pour-clause-refused g c =
     let s = c.args.sides.now in
     let unused = c.in_ok-unused.ensures.unused c.if-not-unused.false in
     let again : IsGivenUpAgain content (content_of c.pour.new.heap) s.account c.args.row.now =
-    subst (λ (es : List (ℕ × RightSet)). IsGivenUpAgain content (content_of c.pour.new.heap) s.account es) c.as_slice.ensures
-    (subst (λ (x : ℕ). IsGivenUpAgain content (content_of c.pour.new.heap) x c.as_slice.result.now) c.account_place-account.ensures.named c.in_err-pour.ensures.refused) in
+    subst (λ (es : List (ℕ × RightSet)). IsGivenUpAgain content (content_of c.pour.new.heap) s.account es) c.as_slice.ensures c.in_err-pour.ensures.refused in
     when_refused c.from_residual-in_err-pour.result (record {
       entries = refl;
       content = same_again content (content_of c.pour.new.heap) s.account (content.label s.user.name) c.args.row.now (listed_edges content s.user.name c.args.row.now c.requires.row) unused.empty again;
@@ -78,8 +70,7 @@ returns-clause-comes g c =
     let p : Parking = parking_of s in
     let row = c.args.row.now in
     let filled : IsGiven content (content_of c.pour.new.heap) s.account row =
-    subst (λ (es : List (ℕ × RightSet)). IsGiven content (content_of c.pour.new.heap) s.account es) c.as_slice.ensures
-    (subst (λ (x : ℕ). IsGiven content (content_of c.pour.new.heap) x c.as_slice.result.now) c.account_place-account.ensures.named c.in_ok-pour.ensures.poured) in
+    subst (λ (es : List (ℕ × RightSet)). IsGiven content (content_of c.pour.new.heap) s.account es) c.as_slice.ensures c.in_ok-pour.ensures.poured in
     record {
       served = c.requires.served;
       unused = c.in_ok-unused.ensures.unused c.if-not-unused.false;

@@ -73,11 +73,12 @@ pub returns-in_err-parked-clause-in_use : goal.returns-in_err-parked-clause-in_u
 returns-in_err-parked-clause-in_use g c =
     let old : StoreState = record { opening = c.self.inside.opening; entries = c.self.inside.journal.entries; handed = c.self.inside.journal.start; heap = c.self.inside.heap; collections = c.self.inside.collections } in
     let given = err_from_is_err_and c.from_residual.result c.from_residual.ensures.1 in
-    let named : parking_of c.in-Some.sides ≡ c.args.parking = c.in-Some.ensures.named in
+    let s = c.in-Some.sides in
+    let named : parking_of s ≡ c.args.parking = c.in-Some.ensures.named in
     λ graph stands same.
-    let here : IsInUse (graph_of_store old).label (parking_of c.in-Some.sides) = in_use_here old (parking_of c.in-Some.sides) c.self.invariant.faithful (c.in_err-parked.ensures.in_use (refused_as given.1 given.2 same)) in
-    subst (λ (h : ProtectionGraph). IsInUse h.label c.args.parking) (stands_inside c.self.invariant c.self.view_is stands)
-    (subst (λ (p : Parking). IsInUse (graph_of_store old).label p) named here)
+    let here : IsInUse (graph_of_store old).label s.user.name s.account = in_use_here old s.user.name s.account c.self.invariant.faithful (c.in_err-parked.ensures.in_use (refused_as given.1 given.2 same)) in
+    subst (λ (h : ProtectionGraph). IsInUse h.label c.args.parking.user c.args.parking.account) (stands_inside c.self.invariant c.self.view_is stands)
+    (subst (λ (p : Parking). IsInUse (graph_of_store old).label p.user p.account) named here)
 
 pub returns-clause-no_such_worker : goal.returns-clause-no_such_worker
 returns-clause-no_such_worker g c =
