@@ -20,12 +20,16 @@ fn cell(alloc: Global) -> Option<Draft<CellPayload>> {
 
 // The host makes a subject over which it holds take and grant.
 fn log_in(alloc: Global, store: &mut Store<CellPayload>) -> Option<u64> {
-    store.spawn(HOST, Label::read_text(b"tg")?, cell(alloc)?).ok()
+    store
+        .spawn(HOST, Label::read_text(b"tg")?, cell(alloc)?)
+        .ok()
 }
 
 // The host makes an object over which it has these rights.
 fn make(alloc: Global, store: &mut Store<CellPayload>, rights: &[u8]) -> Option<u64> {
-    store.create(HOST, Label::read_text(rights)?, cell(alloc)?).ok()
+    store
+        .create(HOST, Label::read_text(rights)?, cell(alloc)?)
+        .ok()
 }
 
 // The host grants a user read over an object, parks the user in an account, and unparks a new user twice.
@@ -39,14 +43,29 @@ fn story(alloc: Global, store: &mut Store<CellPayload>) -> Option<Seen> {
         target: object,
     };
     store.apply(HOST, grant).ok()?;
-    let parked = store.park(Parking { host: HOST, user, account }).ok();
+    let parked = store
+        .park(Parking {
+            host: HOST,
+            user,
+            account,
+        })
+        .ok();
     let user = log_in(alloc, store)?;
-    let back = Parking { host: HOST, user, account };
+    let back = Parking {
+        host: HOST,
+        user,
+        account,
+    };
     let unparked = store.unpark(back).ok();
     let is_denied = matches!(store.unpark(back), Ok(Parked::Denied(_)));
     store.collect(Kind::Full).ok()?;
     let labels = [store.label(user, object), store.label(HOST, account)];
-    Some(([parked, unparked], is_denied, labels, store.census().vertices))
+    Some((
+        [parked, unparked],
+        is_denied,
+        labels,
+        store.census().vertices,
+    ))
 }
 
 fn seen(alloc: Global) -> Option<Seen> {

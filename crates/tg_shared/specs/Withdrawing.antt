@@ -32,4 +32,4 @@ pub record WithdrawsOnly (start : SharedStart) (seen : List Signed) (target : �
 -- Whatever entries follow those that were seen, nobody who is reached holds one of the rights over the target.
 abbrev pub StaysAway : SharedStart → List Signed → RightSet → ℕ → Type 0
 StaysAway start seen rights target =
-  (all : List Signed) (s : StoreState) → HasExactly start all s → IsFaithful s → BeginsWith all seen → AreHoldersOfSome (graph_of_store s) rights target []
+    (all : List Signed) (s : StoreState) → HasExactly start all s → IsFaithful s → BeginsWith all seen → AreHoldersOfSome (graph_of_store s) rights target []

@@ -86,8 +86,9 @@ impl Stop {
                 | StartFault::StrictRace
                 | StartFault::ResumedRace,
             )
-            | Stop::Resume(HistoryFault::OtherWorkers { .. } | HistoryFault::OtherVertices { .. }) =>
-                2,
+            | Stop::Resume(
+                HistoryFault::OtherWorkers { .. } | HistoryFault::OtherVertices { .. },
+            ) => 2,
             Stop::HelpUnwritten
             | Stop::Start(StartFault::OutOfMemory)
             | Stop::Resume(HistoryFault::Text(_) | HistoryFault::Store(_))

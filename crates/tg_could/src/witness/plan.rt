@@ -8,7 +8,7 @@ use crate::separation::{comes_later, has, single};
 use crate::witness::chains::Chains;
 use crate::witness::claims::EdgeClaim;
 use crate::witness::few::{Handing, MOST_NEAR, Near, grant_of, take_of};
-use crate::witness::shorter::{Pair, TurnsStart, Tried};
+use crate::witness::shorter::{Pair, Tried, TurnsStart};
 use crate::witness::trial::Trial;
 use std::alloc::{AllocError, Global};
 use tg_model::{Command, Deed, Edge, Law, MAX_WORKERS, Numbers, Picture};
