@@ -273,14 +273,14 @@ pub(crate) fn find_account<P: Payload>(heap: &Heap<P>, sides: &Sides) -> Account
     match heap.find_edge(sides.host.place, sides.account) {
         Some(found) => Account {
             place: found.place,
-            held: label_with(found.rights),
+            held: label_of(found.rights),
         },
         None => unreachable!(),
     }
 }
 
 // The label of rights, of which there is at least one.
-fn label_with(rights: Rights) -> Label
+fn label_of(rights: Rights) -> Label
     requires { is_none_held rights ≡ false }
     ensures { result ≡ rights }
 {
