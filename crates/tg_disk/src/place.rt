@@ -91,7 +91,10 @@ pub fn begin_disk<R: Files<File = File> + AllocGlobal, S: Start>(
 }
 
 /// Gives the file of [`begin_disk`] its name, and syncs the folder. From then on a crash leaves the file there.
-pub fn put_in_place<R: Files<File = File> + AllocGlobal>(rt: &R, path: &str) -> Result<(), DiskFault> {
+pub fn put_in_place<R: Files<File = File> + AllocGlobal>(
+    rt: &R,
+    path: &str,
+) -> Result<(), DiskFault> {
     let name = new_name(rt, path)?;
     fs::rename(rt, name.as_str(), path)?;
     folder_of(rt, path)?.sync_all()?;
@@ -99,7 +102,10 @@ pub fn put_in_place<R: Files<File = File> + AllocGlobal>(rt: &R, path: &str) -> 
 }
 
 /// Removes the file of [`begin_disk`], which wasn't put in place.
-pub fn drop_begun<R: Files<File = File> + AllocGlobal>(rt: &R, path: &str) -> Result<(), DiskFault> {
+pub fn drop_begun<R: Files<File = File> + AllocGlobal>(
+    rt: &R,
+    path: &str,
+) -> Result<(), DiskFault> {
     let name = new_name(rt, path)?;
     fs::remove_file(rt, name.as_str())?;
     Ok(())
@@ -120,7 +126,11 @@ fn is_there<R: Files<File = File> + AllocGlobal>(rt: &R, path: &str) -> io::Resu
 }
 
 // The file, if it is an ordinary one that still has this name alone, and if no other process has locked it.
-fn own<R: Files<File = File> + AllocGlobal>(rt: &R, path: &str, file: File) -> Result<File, DiskFault> {
+fn own<R: Files<File = File> + AllocGlobal>(
+    rt: &R,
+    path: &str,
+    file: File,
+) -> Result<File, DiskFault> {
     // What is meant for a standard stream that was closed must not come into the file.
     let file = if file.as_raw_fd() <= 2 {
         file.try_clone()?
@@ -153,7 +163,11 @@ fn folder_of<R: Files<File = File> + AllocGlobal>(rt: &R, path: &str) -> io::Res
 }
 
 // The file as a disk, synced with its folder.
-fn settled<R: Files<File = File> + AllocGlobal, S: Start>(rt: &R, path: &str, file: File) -> io::Result<FileDisk<S>>
+fn settled<R: Files<File = File> + AllocGlobal, S: Start>(
+    rt: &R,
+    path: &str,
+    file: File,
+) -> io::Result<FileDisk<S>>
     ensures untouched { IfOk result IsUntouched }
     ensures usable { IfOk result (λ disk. IsTrue (file_is_usable S.Start disk)) }
 {
