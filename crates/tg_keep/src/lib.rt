@@ -35,8 +35,8 @@
 //! | [`LineFile::close`] | ends a run, so that the next opening reports it as closed |
 //!
 //! After an error of `put` or `close` the program drops the file and opens it anew. The crate `tg_disk` has the calls
-//! that reach a real file. What is still missing is files over a disk whose torn write may leave any bytes, and not only
-//! old or new ones.
+//! that reach a real file. What is still missing is files over a disk whose torn write may leave any bytes, and not
+//! only old or new ones.
 #![tactic(auto)]
 
 mod batch;
