@@ -1,5 +1,5 @@
 //! A run between a reader and a writer.
-ghost use Rattle.std.specs.Prelude.{◌≡◌, ◌↔◌, false, IfErr, IfOk, IsOk, OnOk};
+ghost use Rattle.std.specs.Prelude.{◌≡◌, ◌↔◌, false, true, IfErr, IfOk, IsOk, OnOk};
 ghost use Rattle.std.specs.Io.Buffered.{reader_remaining, writer_contents};
 ghost use Rattle.tg_script.specs.Inner.Counting.{MayCountStreams};
 ghost use Rattle.tgstore.specs.Faults.{status_of_stop};
@@ -18,7 +18,7 @@ use std::marker::Brand;
 use std::sync::Wait;
 use std::sync::ledger::{Blank, Ledger};
 use std::thread::Threads;
-use tg_script::{Collector, Count, OfRead, OfWrite};
+use tg_script::{Collector, Count, OfRead, OfWrite, Sink, Source, Unwatched};
 
 /// How many bytes are read, and how many are written, at once.
 pub(crate) const BLOCK: usize = 65536;
@@ -126,9 +126,7 @@ fn serve_counted<
     let (asked, read_failures) = (Count::<A>::new(asked), Count::<B>::new(read_failures));
     let mut source = Noted::new(OfRead::new(reader, asked, read_failures), start.why);
     let mut sink = OfWrite::new(writer, Count::<F>::new(write_failures));
-    let mut watch = StrictWatch::new(host.rt, start.strict);
-    let outcome = serve_with_boxes(host, &mut source, &mut sink, &mut watch, start);
-    let status = strict_status(start.strict, watch.has_refused);
+    let RunEnd { outcome, status } = serve_seen(host, &mut source, &mut sink, start);
     let reason = source.reason(&outcome, start.settings.workers);
     let OfRead { reader, .. } = source.source;
     let OfWrite { writer, .. } = sink;
@@ -139,4 +137,49 @@ fn serve_counted<
         status,
         reason,
     }
+}
+
+/// How a run ended, and its exit status if it ran to the end of its script.
+#[derive(Drop)]
+pub(crate) struct RunEnd {
+    pub outcome: Result<(), Stop>,
+    pub status: u8,
+}
+
+// Serves. If the run is strict, the answers to its lines are seen. This is asked once, and not for each line.
+fn serve_seen<T: Threads + Wait + Sync + Eprint, C: Collector, S: Source, K: Sink>(
+    host: &RunHost<T, C>,
+    source: &mut S,
+    sink: &mut K,
+    start: &Start,
+) -> RunEnd
+    requires servable { MayServe C.Ready start.now }
+    ensures served { ServesFrom start.now (S.left source.old) (S.left source.new) (K.taken sink.old) (K.taken sink.new) result.outcome }
+    ensures strict { OnOk result.outcome (HasStatus start.now (S.left source.old) (S.left source.new) (K.taken sink.old) (K.taken sink.new) result.status) }
+    ensures lax { start.now.strict ≡ false → result.status ≡ 0 }
+{
+    if start.strict {
+        return serve_strictly(host, source, sink, start);
+    }
+    let outcome = serve_with_boxes(host, source, sink, &mut Unwatched, start);
+    RunEnd { outcome, status: 0 }
+}
+
+// Serves a strict run.
+#[inline(never)]
+fn serve_strictly<T: Threads + Wait + Sync + Eprint, C: Collector, S: Source, K: Sink>(
+    host: &RunHost<T, C>,
+    source: &mut S,
+    sink: &mut K,
+    start: &Start,
+) -> RunEnd
+    requires servable { MayServe C.Ready start.now }
+    requires is_strict { start.now.strict ≡ true }
+    ensures served { ServesFrom start.now (S.left source.old) (S.left source.new) (K.taken sink.old) (K.taken sink.new) result.outcome }
+    ensures strict { OnOk result.outcome (HasStatus start.now (S.left source.old) (S.left source.new) (K.taken sink.old) (K.taken sink.new) result.status) }
+{
+    let mut watch = StrictWatch::new(host.rt);
+    let outcome = serve_with_boxes(host, source, sink, &mut watch, start);
+    let status = strict_status(watch.has_refused);
+    RunEnd { outcome, status }
 }
