@@ -1,6 +1,5 @@
 -- A run that goes on from the history of a file.
-use Rattle.std.proofs.Common.{◌≡◌, ◌∙◌, ◌≤◌, ◌+◌, ℕ, Bool, false, true, List, length, Option, Some, None, Result, Ok, Err, arith, subst, sym}
-use Rattle.std.specs.List.{list_any}
+use Rattle.std.proofs.Common.{◌≡◌, ◌∙◌, ◌≤◌, ◌+◌, ℕ, Bool, false, List, length, Option, Some, None, Result, Ok, Err, arith, subst, sym}
 use Rattle.std.specs.Prelude.{IfOk, IfSome}
 use Rattle.tg_text.specs.declared.fault.ScriptFault.{ScriptFault}
 use Rattle.tg_text.specs.declared.fault.ScriptFault.TheVariants as script
@@ -10,14 +9,13 @@ use Rattle.tg_revive.specs.Reviving.{entries_before}
 use Rattle.tg_script.specs.declared.going.RunOn.{RunOn}
 use Rattle.tg_script.specs.GoingOn.{GoneOn, scene_on}
 use Rattle.tg_script.specs.Script.{Scene}
-use Rattle.tg_text.specs.Refusing.{says_refusal}
 use Rattle.tgstore.specs.Resumed.{GoesOnBy, IsResumed, IsRunAfter, MeetsAsked, ServedOn, ServesOn, WentOn, count_before}
-use Rattle.tgstore.specs.Strict.{status_if}
+use Rattle.tgstore.specs.Strict.{seen_if, status_if}
 use Rattle.tgstore.specs.declared.start.ResumedStart.{ResumedStart}
 use Rattle.tgstore.specs.declared.stop.Stop.{Stop}
 use Rattle.tgstore.specs.declared.stop.Stop.TheVariants as stop
 use Rattle.tgstore.proofs.ServingLaws.{told_as}
-use Rattle.tgstore.proofs.StrictLaws.{lax_is, strict_is}
+use Rattle.tgstore.proofs.StrictLaws.{status_seen}
 
 -- ---- what it goes on from
 
@@ -60,23 +58,17 @@ unseen_went : {P : Type 0} (entries : Bool) (from : RunOn P) (bytes before : Lis
 unseen_went entries from bytes before saw saw' (stop.Script fault) left after went = unseen_gone entries (scene_on from) (count_before from) bytes before saw saw' fault left after went
 unseen_went entries from bytes before saw saw' why left after went = absurd went
 
-strict_on : {P : Type 0} (start : ResumedStart) (from : RunOn P) (bytes before : List ℕ) (had saw : Bool) (result : Result (Unit {0}) Stop) (status : ℕ) (left : List ℕ) (after : Option (List ℕ)) → start.strict ≡ true → had ≡ false → status ≡ status_if true saw → WentOn start.entries from bytes before (Some had) result left after (Some saw) → ServedOn start from bytes before result status left after
-strict_on start from bytes before had saw (Ok done) status left after on none is went =
-    (went.0, went.1, went.2, went.3, strict_is start.strict had saw went.0 status on none is went.4)
-strict_on start from bytes before had saw (Err why) status left after on none is went = unseen_went start.entries from bytes before (Some had) (Some saw) why left after went
+served_on : {P : Type 0} (start : ResumedStart) (from : RunOn P) (bytes before : List ℕ) (strict had on saw : Bool) (result : Result (Unit {0}) Stop) (status : ℕ) (left : List ℕ) (after : Option (List ℕ)) → strict ≡ start.strict → had ≡ false → status ≡ status_if start.strict saw → WentOn start.entries from bytes before (seen_if strict had) result left after (seen_if on saw) → ServedOn start from bytes before result status left after
+served_on start from bytes before strict had on saw (Ok done) status left after same none is went =
+    let seen = subst (λ (x : Bool). WentOn start.entries from bytes before (seen_if x had) (Ok done) left after (seen_if on saw)) same went in
+    (seen.0, seen.1, seen.2, seen.3, is ∙ status_seen start.strict had on saw seen.0 none seen.4)
+served_on start from bytes before strict had on saw (Err why) status left after same none is went =
+    unseen_went start.entries from bytes before (seen_if strict had) (seen_if on saw) why left after went
 
-lax_on : {P : Type 0} (start : ResumedStart) (from : RunOn P) (bytes before : List ℕ) (saw saw' : Option Bool) (result : Result (Unit {0}) Stop) (status : ℕ) (left : List ℕ) (after : Option (List ℕ)) → start.strict ≡ false → status ≡ 0 → WentOn start.entries from bytes before saw result left after saw' → ServedOn start from bytes before result status left after
-lax_on start from bytes before saw saw' (Ok done) status left after off is went =
-    (went.0, went.1, went.2, went.3, lax_is start.strict (list_any says_refusal went.0) status off is)
-lax_on start from bytes before saw saw' (Err why) status left after off is went = unseen_went start.entries from bytes before saw saw' why left after went
-
-pub serves_strictly : {P : Type 0} (left left' taken taken' : Option (List ℕ)) (start : ResumedStart) (from : RunOn P) (had saw : Bool) (result : Result (Unit {0}) Stop) (status : ℕ) → start.strict ≡ true → had ≡ false → status ≡ status_if true saw → GoesOnBy start.entries from left left' taken taken' (Some had) (Some saw) result → ServesOn start from left left' taken taken' result status
-serves_strictly left left' taken taken' start from had saw result status on none is goes = λ bytes before leaves takes.
-    let k = goes bytes before leaves takes in (k.0, k.1, strict_on start from bytes before had saw result status k.0 taken' on none is k.2)
-
-pub serves_laxly : {P : Type 0} (left left' taken taken' : Option (List ℕ)) (start : ResumedStart) (from : RunOn P) (saw saw' : Option Bool) (result : Result (Unit {0}) Stop) (status : ℕ) → start.strict ≡ false → status ≡ 0 → GoesOnBy start.entries from left left' taken taken' saw saw' result → ServesOn start from left left' taken taken' result status
-serves_laxly left left' taken taken' start from saw saw' result status off is goes = λ bytes before leaves takes.
-    let k = goes bytes before leaves takes in (k.0, k.1, lax_on start from bytes before saw saw' result status k.0 taken' off is k.2)
+pub serves_on : {P : Type 0} (left left' taken taken' : Option (List ℕ)) (start : ResumedStart) (from : RunOn P) (strict had on saw : Bool) (result : Result (Unit {0}) Stop) (status : ℕ) → strict ≡ start.strict → had ≡ false → status ≡ status_if start.strict saw → GoesOnBy start.entries from left left' taken taken' (seen_if strict had) (seen_if on saw) result → ServesOn start from left left' taken taken' result status
+serves_on left left' taken taken' start from strict had on saw result status same none is goes = λ bytes before leaves takes.
+    let had_so = goes bytes before leaves takes in
+    (had_so.0, had_so.1, served_on start from bytes before strict had on saw result status had_so.0 taken' same none is had_so.2)
 
 -- what is known of a reader and a writer is known of those that they were made from
 pub serves_from : {P : Type 0} (l left left' k taken taken' : Option (List ℕ)) (start : ResumedStart) (from : RunOn P) (result : Result (Unit {0}) Stop) (status : ℕ) → l ≡ left → k ≡ taken → ServesOn start from left left' taken taken' result status → ServesOn start from l left' k taken' result status

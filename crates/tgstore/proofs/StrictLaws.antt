@@ -13,12 +13,22 @@ use Rattle.tg_text.specs.declared.answer.Answer.{Answer}
 use Rattle.tg_text.specs.declared.fault.ScriptFault.{ScriptFault}
 use Rattle.tg_text.specs.declared.stock.StockItem.TheVariants.{Cell}
 use Rattle.tg_script.specs.Script.{start_with}
-use Rattle.tg_script.specs.Watching.{IsWatched, SeesAll}
+use Rattle.tg_script.specs.Watching.{IsWatched, SeesOne, SeesAll}
 use Rattle.tg_text.specs.Refusing.{says_refusal}
 use Rattle.tgstore.specs.Boxes.{value_of_item}
 use Rattle.tgstore.specs.declared.start.Start.{Start}
 use Rattle.tgstore.specs.declared.stop.Stop.{Stop}
-use Rattle.tgstore.specs.Strict.{HasStatus, WatchesFrom, status_if}
+use Rattle.tgstore.specs.Strict.{HasStatus, WatchesFrom, seen_if, status_if}
+
+-- ---- one answer
+
+pub seen_noted : (strict had strict' had' : Bool) (a : Answer) → strict ≡ true → strict' ≡ strict → had' ≡ (had || says_refusal a) → SeesOne (seen_if strict had) a (seen_if strict' had')
+seen_noted false had strict' had' a on same noted = absurd (false≢true on)
+seen_noted true had strict' had' a on same noted = ap (λ (x : Bool). seen_if x had') same ∙ ap Some noted
+
+pub unseen : (strict had : Bool) (a : Answer) → strict ≡ false → SeesOne (seen_if strict had) a (seen_if strict had)
+unseen false had a off = tt
+unseen true had a off = absurd (false≢true (sym off))
 
 -- ---- a run
 
@@ -39,26 +49,32 @@ seen_run left left' taken taken' saw saw' start values stock (Err fault) workers
 seen_run left left' taken taken' saw saw' start values stock (Ok done) workers boxes seen = seen_from left left' taken taken' saw saw' start values stock workers boxes seen
 
 -- what a strict watch has seen at the end is what the answers say
-saw_answers : (had saw : Bool) (answers : List Answer) → had ≡ false → SeesAll (Some had) answers (Some saw) → saw ≡ list_any says_refusal answers
-saw_answers had saw answers none seen = same_Some saw (had || list_any says_refusal answers) seen ∙ ap (λ (x : Bool). x || list_any says_refusal answers) none
+saw_answers : (had on saw : Bool) (answers : List Answer) → had ≡ false → SeesAll (Some had) answers (seen_if on saw) → saw ≡ list_any says_refusal answers
+saw_answers had false saw answers none seen = absurd cc
+saw_answers had true saw answers none seen = same_Some saw (had || list_any says_refusal answers) seen ∙ ap (λ (x : Bool). x || list_any says_refusal answers) none
 
--- so the status is that of the answers; and without a watch it is 0
-pub strict_is : (strict had saw : Bool) (answers : List Answer) (status : ℕ) → strict ≡ true → had ≡ false → status ≡ status_if true saw → SeesAll (Some had) answers (Some saw) → status ≡ status_if strict (list_any says_refusal answers)
-strict_is strict had saw answers status on none is seen =
-    is ∙ ap (status_if true) (saw_answers had saw answers none seen) ∙ ap (λ (x : Bool). status_if x (list_any says_refusal answers)) (sym on)
+pub status_seen : (strict had on saw : Bool) (answers : List Answer) → had ≡ false → SeesAll (seen_if strict had) answers (seen_if on saw) → status_if strict saw ≡ status_if strict (list_any says_refusal answers)
+status_seen false had on saw answers none seen = refl
+status_seen true had on saw answers none seen = ap (status_if true) (saw_answers had on saw answers none seen)
 
-pub lax_is : (strict refused : Bool) (status : ℕ) → strict ≡ false → status ≡ 0 → status ≡ status_if strict refused
-lax_is strict refused status off is = is ∙ ap (λ (x : Bool). status_if x refused) (sym off)
+seen_by : (left left' taken taken' : Option (List ℕ)) (saw' : Option Bool) (start : Start) (strict had : Bool) → strict ≡ start.strict → WatchesFrom start left left' taken taken' (seen_if strict had) saw' → WatchesFrom start left left' taken taken' (seen_if start.strict had) saw'
+seen_by left left' taken taken' saw' start strict had same seen = subst (λ (x : Bool). WatchesFrom start left left' taken taken' (seen_if x had) saw') same seen
 
-pub has_strict_status : (left left' taken taken' : Option (List ℕ)) (start : Start) (had saw : Bool) (outcome : Result (Unit {0}) Stop) (status : ℕ) → start.strict ≡ true → had ≡ false → status ≡ status_if true saw → OnOk outcome (WatchesFrom start left left' taken taken' (Some had) (Some saw)) → OnOk outcome (HasStatus start left left' taken taken' status)
-has_strict_status left left' taken taken' start had saw (Err why) status on none is seen = tt
-has_strict_status left left' taken taken' start had saw (Ok done) status on none is seen = λ bytes before leaves takes alone.
-    let k = seen bytes before leaves takes alone in (k.0, k.2.0, k.1, k.2.1, strict_is start.strict had saw k.2.0 status on none is k.2.2)
+pub has_status : (left left' taken taken' : Option (List ℕ)) (start : Start) (strict had on saw : Bool) (outcome : Result (Unit {0}) Stop) (status : ℕ) → strict ≡ start.strict → had ≡ false → status ≡ status_if start.strict saw → OnOk outcome (WatchesFrom start left left' taken taken' (seen_if strict had) (seen_if on saw)) → OnOk outcome (HasStatus start left left' taken taken' status)
+has_status left left' taken taken' start strict had on saw (Err why) status same none is seen = tt
+has_status left left' taken taken' start strict had on saw (Ok done) status same none is seen = λ bytes before leaves takes alone.
+    let k = seen_by left left' taken taken' (seen_if on saw) start strict had same seen bytes before leaves takes alone in
+    (k.0, k.2.0, k.1, k.2.1, is ∙ status_seen start.strict had on saw k.2.0 none k.2.2)
 
+-- without a watch it is 0
 pub has_lax_status : (left left' taken taken' : Option (List ℕ)) (start : Start) (saw saw' : Option Bool) (outcome : Result (Unit {0}) Stop) (status : ℕ) → start.strict ≡ false → status ≡ 0 → OnOk outcome (WatchesFrom start left left' taken taken' saw saw') → OnOk outcome (HasStatus start left left' taken taken' status)
 has_lax_status left left' taken taken' start saw saw' (Err why) status off is seen = tt
 has_lax_status left left' taken taken' start saw saw' (Ok done) status off is seen = λ bytes before leaves takes alone.
-    let k = seen bytes before leaves takes alone in (k.0, k.2.0, k.1, k.2.1, lax_is start.strict (list_any says_refusal k.2.0) status off is)
+    let k = seen bytes before leaves takes alone in
+    (k.0, k.2.0, k.1, k.2.1, is ∙ ap (λ (x : Bool). status_if x (list_any says_refusal k.2.0)) (sym off))
+
+pub lax_status : (strict saw : Bool) (status : ℕ) → status ≡ status_if strict saw → strict ≡ false → status ≡ 0
+lax_status strict saw status is lax = is ∙ ap (λ (x : Bool). status_if x saw) lax
 
 -- what is known of a reader and a writer is known of those that they were made from
 pub status_from : (l left left' k taken taken' : Option (List ℕ)) (start : Start) (outcome : Result (Unit {0}) Stop) (status : ℕ) → l ≡ left → k ≡ taken → OnOk outcome (HasStatus start left left' taken taken' status) → OnOk outcome (HasStatus start l left' k taken' status)

@@ -1,5 +1,5 @@
 //! A run between a reader and a writer.
-ghost use Rattle.std.specs.Prelude.{◌≡◌, ◌↔◌, false, true, IfErr, IfOk, IsOk, OnOk};
+ghost use Rattle.std.specs.Prelude.{◌≡◌, ◌↔◌, false, IfErr, IfOk, IsOk, OnOk};
 ghost use Rattle.std.specs.Io.Buffered.{reader_remaining, writer_contents};
 ghost use Rattle.tg_script.specs.Inner.Counting.{MayCountStreams};
 ghost use Rattle.tgstore.specs.Faults.{status_of_stop};
@@ -139,14 +139,14 @@ fn serve_counted<
     }
 }
 
-/// How a run ended, and its exit status if it ran to the end of its script.
+// How a run ended, and its exit status if it ran to the end of its script.
 #[derive(Drop)]
-pub(crate) struct RunEnd {
-    pub outcome: Result<(), Stop>,
-    pub status: u8,
+struct RunEnd {
+    outcome: Result<(), Stop>,
+    status: u8,
 }
 
-// Serves. If the run is strict, the answers to its lines are seen. This is asked once, and not for each line.
+// Serves. It asks once whether the run is strict. A run that isn't strict has no watch, so its lines don't ask again.
 fn serve_seen<T: Threads + Wait + Sync + Eprint, C: Collector, S: Source, K: Sink>(
     host: &RunHost<T, C>,
     source: &mut S,
@@ -159,27 +159,27 @@ fn serve_seen<T: Threads + Wait + Sync + Eprint, C: Collector, S: Source, K: Sin
     ensures lax { start.now.strict ≡ false → result.status ≡ 0 }
 {
     if start.strict {
-        return serve_strictly(host, source, sink, start);
+        return serve_watched(host, source, sink, start);
     }
     let outcome = serve_with_boxes(host, source, sink, &mut Unwatched, start);
     RunEnd { outcome, status: 0 }
 }
 
-// Serves a strict run.
+// Serves, and sees the answers to the lines.
 #[inline(never)]
-fn serve_strictly<T: Threads + Wait + Sync + Eprint, C: Collector, S: Source, K: Sink>(
+fn serve_watched<T: Threads + Wait + Sync + Eprint, C: Collector, S: Source, K: Sink>(
     host: &RunHost<T, C>,
     source: &mut S,
     sink: &mut K,
     start: &Start,
 ) -> RunEnd
     requires servable { MayServe C.Ready start.now }
-    requires is_strict { start.now.strict ≡ true }
     ensures served { ServesFrom start.now (S.left source.old) (S.left source.new) (K.taken sink.old) (K.taken sink.new) result.outcome }
     ensures strict { OnOk result.outcome (HasStatus start.now (S.left source.old) (S.left source.new) (K.taken sink.old) (K.taken sink.new) result.status) }
+    ensures lax { start.now.strict ≡ false → result.status ≡ 0 }
 {
-    let mut watch = StrictWatch::new(host.rt);
+    let mut watch = StrictWatch::new(host.rt, start.strict);
     let outcome = serve_with_boxes(host, source, sink, &mut watch, start);
-    let status = strict_status(watch.has_refused);
+    let status = strict_status(start.strict, watch.has_refused);
     RunEnd { outcome, status }
 }

@@ -1,5 +1,5 @@
 //! A run that goes on from a history, between a reader and a writer.
-ghost use Rattle.std.specs.Prelude.{◌≡◌, ◌≤◌, false, true, IfErr, IfOk, length};
+ghost use Rattle.std.specs.Prelude.{◌≡◌, ◌≤◌, false, IfErr, IfOk, length};
 ghost use Rattle.std.specs.Io.Buffered.{reader_remaining, writer_contents};
 ghost use Rattle.tg_script.specs.Inner.Counting.{MayCountStreams};
 ghost use Rattle.tgstore.specs.Faults.{status_of_stop};
@@ -9,7 +9,7 @@ use crate::host::RunHost;
 use crate::noted::Noted;
 use crate::start::{ResumedStart, StartFault};
 use crate::stop::Stop;
-use crate::streams::{BLOCK, Ended, RunEnd, StreamBlanks};
+use crate::streams::{BLOCK, Ended, StreamBlanks};
 use crate::strict::{StrictWatch, strict_status};
 use std::io::{BufRead, BufReader, BufWriter, Eprint, Read, Write};
 use std::marker::Brand;
@@ -19,8 +19,7 @@ use std::thread::Threads;
 use tg_model::MAX_WORKERS;
 use tg_payload::LawPayload;
 use tg_script::{
-    Collector, Count, OfRead, OfWrite, RunMeans, RunOn, Sink, Source, Unwatched, Watch,
-    run_script_on,
+    Collector, Count, OfRead, OfWrite, RunMeans, RunOn, Sink, Source, Watch, run_script_on,
 };
 
 /// Runs the reader's script from a history on, and writes the replies or the entries. Whatever was written is flushed
@@ -103,7 +102,16 @@ fn serve_counted_on<
     let (asked, read_failures) = (Count::<A>::new(asked), Count::<B>::new(read_failures));
     let mut source = Noted::new(OfRead::new(reader, asked, read_failures), start.why);
     let mut sink = OfWrite::new(writer, Count::<F>::new(write_failures));
-    let RunEnd { outcome, status } = go_on_seen(host, &mut source, &mut sink, start, from);
+    let mut watch = StrictWatch::new(host.rt, start.strict);
+    let outcome = go_on(
+        host,
+        &mut source,
+        &mut sink,
+        &mut watch,
+        start.entries,
+        from,
+    );
+    let status = strict_status(start.strict, watch.has_refused);
     // No line may be an edge line.
     let reason = source.reason(&outcome, MAX_WORKERS);
     let OfRead { reader, .. } = source.source;
@@ -115,45 +123,6 @@ fn serve_counted_on<
         status,
         reason,
     }
-}
-
-// Runs the source's script from there on. If the run is strict, the answers to its lines are seen.
-fn go_on_seen<T: Eprint, C: Collector, S: Source, K: Sink>(
-    host: &RunHost<T, C>,
-    source: &mut S,
-    sink: &mut K,
-    start: &ResumedStart,
-    from: RunOn<LawPayload>,
-) -> RunEnd
-    requires ready { C.Ready }
-    requires place { from.skipped ≤ length from.store.entries }
-    ensures served { ServesOn start.now from (S.left source.old) (S.left source.new) (K.taken sink.old) (K.taken sink.new) result.outcome result.status }
-    ensures lax { start.now.strict ≡ false → result.status ≡ 0 }
-{
-    if start.strict {
-        return go_on_strictly(host, source, sink, start, from);
-    }
-    let outcome = go_on(host, source, sink, &mut Unwatched, start.entries, from);
-    RunEnd { outcome, status: 0 }
-}
-
-// Runs a strict run's script from there on.
-fn go_on_strictly<T: Eprint, C: Collector, S: Source, K: Sink>(
-    host: &RunHost<T, C>,
-    source: &mut S,
-    sink: &mut K,
-    start: &ResumedStart,
-    from: RunOn<LawPayload>,
-) -> RunEnd
-    requires ready { C.Ready }
-    requires place { from.skipped ≤ length from.store.entries }
-    requires is_strict { start.now.strict ≡ true }
-    ensures served { ServesOn start.now from (S.left source.old) (S.left source.new) (K.taken sink.old) (K.taken sink.new) result.outcome result.status }
-{
-    let mut watch = StrictWatch::new(host.rt);
-    let outcome = go_on(host, source, sink, &mut watch, start.entries, from);
-    let status = strict_status(watch.has_refused);
-    RunEnd { outcome, status }
 }
 
 // Runs the source's script from there on, and puts replies or entries into the sink.

@@ -1,5 +1,5 @@
 //! Lines that were denied or refused, which a strict run reports.
-ghost use Rattle.std.specs.Prelude.{◌≡◌, ◌||◌, false, true};
+ghost use Rattle.std.specs.Prelude.{◌≡◌, ◌||◌, false};
 ghost use Rattle.tg_text.specs.Refusing.{says_refusal};
 ghost use Rattle.tgstore.specs.Strict.{status_if};
 
@@ -10,28 +10,33 @@ use tg_text::AsText;
 /// The exit status of a strict run to the end of its script, if a line was denied or refused.
 pub const REFUSED_LINES: u8 = 3;
 
-/// Reports each line that is denied or refused on standard error. A strict run has this watch.
+/// Reports each line that is denied or refused on standard error, if the run is strict.
 #[derive(Drop)]
 pub(crate) struct StrictWatch<'a, R: Eprint> {
     rt: &'a R,
-    /// Whether a line was denied or refused.
+    is_strict: bool,
+    /// Whether a line was denied or refused. If the run isn't strict, this isn't noted.
     pub has_refused: bool,
 }
 
 impl<'a, R: Eprint> StrictWatch<'a, R> {
     /// No line was denied or refused.
-    pub(crate) fn new(rt: &'a R) -> StrictWatch<'a, R>
-        ensures { result.has_refused ≡ false }
+    pub(crate) fn new(rt: &'a R, is_strict: bool) -> StrictWatch<'a, R>
+        ensures strict { result.is_strict ≡ is_strict }
+        ensures none { result.has_refused ≡ false }
     {
         StrictWatch {
             rt,
+            is_strict,
             has_refused: false,
         }
     }
 
     // Notes and reports a line that was denied or refused.
+    #[inline(never)]
     fn note(&mut self, number: u64, answer: &Answer)
-        ensures { self.new.has_refused ≡ (self.old.has_refused || says_refusal answer.now) }
+        ensures strict { self.new.is_strict ≡ self.old.is_strict }
+        ensures noted { self.new.has_refused ≡ (self.old.has_refused || says_refusal answer.now) }
     {
         if is_refusal(answer) {
             self.has_refused = true;
@@ -40,22 +45,28 @@ impl<'a, R: Eprint> StrictWatch<'a, R> {
     }
 }
 
-/// The exit status of a strict run to the end of its script. It is 3 if a line was denied or refused, else 0.
-pub fn strict_status(has_refused: bool) -> u8
-    ensures { result ≡ status_if true has_refused }
+/// The exit status of a run to the end of its script. It is 3 if the run is strict and a line was denied or refused,
+/// else 0.
+pub fn strict_status(is_strict: bool, has_refused: bool) -> u8
+    ensures { result ≡ status_if is_strict has_refused }
 {
-    if has_refused {
+    if is_strict && has_refused {
         return REFUSED_LINES;
     }
     0
 }
 
 impl<R: Eprint> Watch for StrictWatch<'_, R> {
-    ghost use Rattle.std.specs.Prelude.{Some};
+    ghost use Rattle.tgstore.specs.Strict.{seen_if};
 
-    ghost refused = { λ w. Some w.has_refused };
+    ghost refused = { λ w. seen_if w.is_strict w.has_refused };
 
+    #[inline(always)]
+    #[tactic(auto, using(crate::proofs::StrictLaws::seen_noted, crate::proofs::StrictLaws::unseen))]
     fn see(&mut self, line: &NumberedLine, answer: &Answer) {
+        if !self.is_strict {
+            return;
+        }
         self.note(line.number, answer);
     }
 }
