@@ -126,21 +126,21 @@ fn serve_counted<
     let (asked, read_failures) = (Count::<A>::new(asked), Count::<B>::new(read_failures));
     let mut source = Noted::new(OfRead::new(reader, asked, read_failures), start.why);
     let mut sink = OfWrite::new(writer, Count::<F>::new(write_failures));
-    let RunEnd { outcome, status } = serve_seen(host, &mut source, &mut sink, start);
-    let reason = source.reason(&outcome, start.settings.workers);
+    let ran = serve_seen(host, &mut source, &mut sink, start);
+    let reason = source.reason(&ran.outcome, start.settings.workers);
     let OfRead { reader, .. } = source.source;
     let OfWrite { writer, .. } = sink;
     Ended {
         reader,
         writer,
-        outcome,
-        status,
+        outcome: ran.outcome,
+        status: ran.status,
         reason,
     }
 }
 
 // How a run ended, and its exit status if it ran to the end of its script.
-#[derive(Drop)]
+#[derive(Clone, Copy)]
 struct RunEnd {
     outcome: Result<(), Stop>,
     status: u8,

@@ -4,7 +4,7 @@ use Rattle.tgstore.proofs.streams.serve_counted.Goals as goal
 
 pub returns-clause-strict : goal.returns-clause-strict
 returns-clause-strict g c =
-    let run = c.serve_seen in
+    let run = c.serve_seen-ran in
     let left = g.R.Read.remaining c.new-source.result.source.reader in
     let left' = g.R.Read.remaining run.new.source.source.reader in
     let taken = g.W.Write.contents c.new-sink.result.writer in
