@@ -34,9 +34,9 @@
 //! | [`LineFile::put`], [`LineFile::put_all`] | put batches into the file. At `Ok` each crash leaves their lines |
 //! | [`LineFile::close`] | ends a run, so that the next opening reports it as closed |
 //!
-//! After an error of `put` or `close` the program drops the file and opens it anew. The crate `tg_disk` has the calls
-//! that reach a real file. What is still missing is files over a disk whose torn write may leave any bytes, and not
-//! only old or new ones.
+//! After an error of `put` or `close` the program drops the file and opens it anew. Two things are still missing. The
+//! first is files over a disk whose torn write may leave any bytes, and not only old or new ones. The second is the
+//! calls that reach a real file.
 #![tactic(auto)]
 
 mod batch;

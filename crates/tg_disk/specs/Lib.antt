@@ -1,2 +1,0 @@
-pub mod Note
-pub mod Placed
