@@ -1,4 +1,4 @@
--- What a batch of commands does in the lock, and what its session knows then.
+-- The effect of a batch of commands in the lock, and the knowledge of its session after it.
 use Rattle.std.specs.Prelude.{◌≡◌, ◌≢◌, ℕ, ◌+◌, ◌<◌, List, ◌++◌, length, take}
 use Rattle.tg_model.specs.declared.command.Command.{Command}
 use Rattle.tg_journal.specs.declared.entry.Entry.{Entry}
@@ -24,22 +24,23 @@ pub record ServesAll (commands : List Command) (old new : LockedState) (before a
   pub signed : new.signed ≡ old.signed ++ sign_all (Session before.worker) applies.made
   pub seen : before.seen ≡ old.signed → after.seen ≡ new.signed
 
--- The command at a place was refused. Those before it were taken, and nothing else was.
+-- The command at a place was refused. The commands before it were taken, and no others.
 pub record StopsServingAt (commands : List Command) (old new : LockedState) (before after : SessionState) (done : ℕ) (why : ApplyFault) : Type 0 where
   pub served : ServesAll (take done commands) old new before after
   pub refused : IsRefusedAt before.worker commands new.store done why
 
--- a batch in the lock stops at a command alone: who asks has looked how long it is
+-- A batch in the lock stops only at a command. Its length was checked before the lock was taken.
 abbrev pub StopsServing : List Command → LockedState → LockedState → SessionState → SessionState → BatchFault → Type 0
 StopsServing commands old new before after TooLong = ⊥
 StopsServing commands old new before after (Stopped done why) = StopsServingAt commands old new before after done why
 
--- ---- what a session knows
+-- ---- the knowledge of a session
 
--- Exactly one receipt more for each of the commands, in their order, of entries at places that follow one another. They came next after
--- these entries since the start, which the session sees: they begin with those that it had seen, and its own among them are exactly
--- those that it had made. Each new entry was legal on the graph after those before it: the reply is the rules' there. The session has
--- then seen them and the new ones.
+-- There is exactly one receipt more for each of the commands, in their order. The places of the new entries follow one another.
+-- They came next after these entries since the start, which the session sees. So these entries begin with the entries that it had
+-- seen, and its own entries among them are exactly the entries that it had made. Each new entry was legal on the graph after the
+-- entries before it, so its reply is the reply of the rules there. The session has then seen the entries before and the new
+-- entries.
 pub record AnswersAll (start : SharedStart) (commands : List Command) (old new : SessionState) : Type 0 where
   pub before : List Signed
   pub sees : Sees before (knowledge old)
@@ -49,15 +50,15 @@ pub record AnswersAll (start : SharedStart) (commands : List Command) (old new :
   pub legal : AtSeen start before (λ s. IsLegal (graph_of_store s) entries)
   pub seen : new.seen ≡ before ++ sign_all (Session old.worker) entries
 
--- A batch stopped at the command at a place. The commands before it were answered; if there is none, no receipt was added. The refusal
--- was due of a store with exactly the entries that the session has then seen, unless memory ran out.
+-- A batch stopped at the command at a place. The commands before it were answered. If there are none, no receipt was added. Unless
+-- memory ran out, a store with exactly the entries that the session has then seen had the reason for the refusal.
 pub record StopsAtCall (start : SharedStart) (commands : List Command) (old new : SessionState) (done : ℕ) (why : ApplyFault) : Type 0 where
   pub place : done < length commands
   pub none : done ≡ 0 → HasLooked old new
   pub some : 0 < done → AnswersAll start (take done commands) old new
   pub refused : why ≢ OutOfMemory → AtSeen start new.seen (λ s. IsRefusedAt old.worker commands s done why)
 
--- why a batch of a session was not done to its end, and what it leaves
+-- why a batch of a session was not done to its end, and the state that it leaves
 abbrev pub StopsCalls : SharedStart → List Command → SessionState → SessionState → BatchFault → Type 0
 StopsCalls start commands old new TooLong = new ≡ old
 StopsCalls start commands old new (Stopped done why) = StopsAtCall start commands old new done why

@@ -1,4 +1,4 @@
-//! What the lines of a script ask of the sessions, and what they come to.
+//! The tasks that the lines of a script give to the sessions, and their results.
 ghost use Rattle.std.specs.Prelude.{◌≡◌};
 ghost use Rattle.tg_threads.specs.Shares.{runner_of};
 
@@ -14,7 +14,7 @@ pub struct Task<P: Payload> {
     pub draft: Option<Draft<P>>,
 }
 
-/// What a line came to.
+/// The result of a line.
 #[derive(Clone, Copy, PartialEq, Eq, Debug)]
 pub enum Told {
     /// The entry at this place of the journal.

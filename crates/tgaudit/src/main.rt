@@ -6,7 +6,7 @@
 //!
 //! With the names of kept files it reads these, each by itself. `tg_keep` says what the lines of a kept file are.
 //! `kept` audits the bytes of a kept file, and has the theorem of this crate. `files` reads a file by its name, and
-//! prints what was found.
+//! prints the outcome.
 #![tactic(auto)]
 
 mod files;

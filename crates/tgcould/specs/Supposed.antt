@@ -1,4 +1,4 @@
--- What the options suppose: who takes no turns, and edges that are asked about as if they were there.
+-- The suppositions of the options. Some subjects take no turns, and some edges are asked about as if they were there.
 use Rattle.std.specs.Prelude.{◌≡◌, ◌≢◌, ℕ, ◌<◌, List, ◌++◌, codes}
 use Rattle.std.specs.List.{All, AllZip}
 use Rattle.clap.specs.declared.parser.matches.ArgMatches.{ArgMatches}
@@ -17,11 +17,11 @@ pub record WritesEdge (text : List ℕ) (edge : Edge) : Type 0 where
   pub is : codes "edge " ++ text ≡ line_text (line.Edge edge)
   pub differ : edge.from ≢ edge.to
 
--- each text writes the name in its place: no text is left out, and no other name is there
+-- each text writes the name at its place, and there are no other names
 abbrev pub AreNameTexts : List (List ℕ) → List ℕ → Type 0
 AreNameTexts texts names = AllZip WritesWord texts names
 
--- each text writes the edge in its place: no text is left out, and no other edge is there
+-- each text writes the edge at its place, and there are no other edges
 abbrev pub AreEdges : List (List ℕ) → List Edge → Type 0
 AreEdges texts edges = AllZip WritesEdge texts edges
 
@@ -36,6 +36,7 @@ pub record IsSupposed (matches : ArgMatches) (supposed : Supposed) : Type 0 wher
 abbrev pub JoinsMade : ℕ → Edge → Type 0
 JoinsMade made edge = (edge.from < made) × (edge.to < made)
 
--- of each graph that the one is a picture of, and that has both ends of these edges, the other is a picture with the edges
+-- The first is a picture of each of these graphs, which have both ends of these edges. Then the second is a picture of the graph
+-- with the edges.
 abbrev pub Supposes : Shown → List Edge → Shown → Type 0
 Supposes old edges new = (g : ProtectionGraph) → IsPictureOf old g → All (JoinsMade g.made) edges → IsPictureOf new (with_edges g edges)

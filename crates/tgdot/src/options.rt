@@ -82,10 +82,10 @@ pub const COMMAND_LINE: CommandLine = CommandLine {
     choices: CHOICES,
 };
 
-/// What the words ask for.
+/// The requests of the words.
 #[derive(Clone, Copy)]
 pub struct DotOptions<'a> {
-    /// What the script runs on.
+    /// The options of the plain graph on which the script runs.
     pub plain: PlainOptions<'a>,
     /// The lines whose steps are drawn, or `None` where only the last graph is.
     pub steps: Option<LineRange>,

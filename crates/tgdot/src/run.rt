@@ -69,7 +69,7 @@ impl ScriptRun {
         }
     }
 
-    /// What the vertex of this name stores, where it was made and no collection took it.
+    /// The value that the vertex of this name stores, if it was made and no collection took it.
     pub fn value(&self, name: u64) -> Option<&Value> {
         if self.names.contains(&name) {
             self.values.get(name as usize)
@@ -102,7 +102,7 @@ impl ScriptRun {
         }
     }
 
-    /// Looks anew for what the subjects reach.
+    /// Looks anew for the vertices that the subjects reach.
     pub fn reach(&mut self) {
         let graph = &self.plain.graph;
         self.reached

@@ -1,4 +1,4 @@
-//! What a step shows.
+//! The parts of a step that are shown.
 
 use crate::look::{Colour, Stroke, Style};
 use crate::marks::{Marks, NO_MARKS};
@@ -16,9 +16,9 @@ pub struct Shot {
     pub number: u64,
     /// The number and the line.
     pub heading: PlainText,
-    /// What the line was answered.
+    /// The answer to the line.
     pub told: PlainText,
-    /// What is highlighted.
+    /// The marks on the parts that are highlighted.
     pub marks: Marks,
     /// The run.
     pub run: ScriptRun,

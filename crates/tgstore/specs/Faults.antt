@@ -42,7 +42,7 @@ status_of_stop (stop.Resume (resume.Store fault)) = 1
 status_of_stop (stop.Script fault) = 1
 status_of_stop (stop.Race fault) = 1
 
--- the status that was answered, or that of what ended the program before
+-- the status that was answered, or the status of the fault that ended the program before
 abbrev pub exit_status : Result ℕ Stop → ℕ
 exit_status (Ok status) = status
 exit_status (Err why) = status_of_stop why
