@@ -63,22 +63,22 @@ fn open_store<D: Disk, P: Payload, M: Maker<P>>(
 }
 
 impl<D: Disk, P: Payload> Kept<D, P> {
-    /// Opens a file that a [`Kept`] has written, and that a crash may have left. What comes after the last whole line
-    /// was never answered, so it is cut off. The lines are read as a history, whose replies are compared with those of
-    /// the rules. Then the deed of each entry is done again. `Ok` has a store with exactly the opening and the entries
-    /// that the file says, and a crash leaves all of them. It goes on from there, by [`Kept::serve`] and the other
-    /// calls.
+    /// Opens a file that a [`Kept`] has written, and that a crash may have left. The bytes after the last whole line
+    /// were never answered, so they are cut off. The lines are read as a history, whose replies are compared with the
+    /// replies of the rules. Then the deed of each entry is done again. `Ok` has a store with exactly the opening and
+    /// the entries that the file says, and a crash leaves all of them. It goes on from there, by [`Kept::serve`] and
+    /// the other calls.
     ///
     /// Payloads come from the maker. The heap has the limits that are given. Memory is taken for the whole file, for
     /// its text, and for the store. Nothing is put into the file.
     ///
     /// The refusals, in the order in which they are looked for. The store isn't made, or is dropped. A refusal that is
-    /// not of the disk leaves a file that says what it said:
+    /// not of the disk leaves a file with the same history:
     ///
-    /// - [`OpenFault::File`], as [`LineFile::open`] refuses a file: a call of the disk failed, memory ran out, the file
+    /// - [`OpenFault::File`], as [`LineFile::open`] refuses a file. A call of the disk failed, memory ran out, the file
     ///   is no kept file, or a line is damaged.
-    /// - [`OpenFault::Text`], with the first line that is none of a legal history. Its reply isn't that of the rules,
-    ///   for example. A mark has to have the number of the entries before it. Or memory ran out.
+    /// - [`OpenFault::Text`], with the first line that is no line of a legal history. For example, its reply isn't the
+    ///   reply of the rules. A mark has to have the number of the entries before it. Or memory ran out.
     /// - [`OpenFault::Store`], if there is no room in the heap for the store. It has the place of the entry.
     pub fn open<M: Maker<P>>(
         alloc: Global,

@@ -48,11 +48,11 @@ pub fn as_many_receipts_share_out()
         MayClose entries first sessions → length entries ≡ first + count_of sessions → AreSharedOut (drop first entries) sessions }
 {}
 
-/// What [`close`](crate::close) says of receipts, for a service that has kept all parts of a journal. It has also kept
-/// all receipts of each session, whether the session was taken over or not. Suppose that the receipts match part by
-/// part, that no two sessions are of one worker, and that there are as many receipts as entries. Then each entry is in
-/// exactly one receipt. The receipts of each session are all its entries, in their order. The last part may have the
-/// entries that the store still holds.
+/// The law of [`close`](crate::close) for a service that has kept all parts of a journal. It has also kept all receipts
+/// of each session, whether the session was taken over or not. Suppose that the receipts match part by part, that no
+/// two sessions are of one worker, and that there are as many receipts as entries. Then each entry is in exactly one
+/// receipt. The receipts of each session are all its entries, in their order. The last part may have the entries that
+/// the store still holds.
 pub fn kept_parts_share_out()
     ensures { (entries : List Entry) (first : ℕ) (sessions : List SessionState) →
         AreKeptInParts entries first sessions → length entries ≡ first + count_of sessions → AreSharedOut (drop first entries) sessions }
@@ -64,9 +64,9 @@ pub fn a_whole_journal_is_held()
     ensures { (start : SharedStart) (s : StoreState) → StaysWhole start s → held_from start s ≡ length start.entries }
 {}
 
-/// What a close says of the receipts of a store that was shared whole. Suppose that they may close, and that as many
-/// entries were made since. Then each of these entries is in exactly one receipt, and the receipts of each session are
-/// all its entries, in their order. A session of such a store can't hand out a receipt. So
+/// The law of the receipts of a store that was shared whole. Suppose that they may close, and that as many entries were
+/// made since. Then each of these entries is in exactly one receipt, and the receipts of each session are all its
+/// entries, in their order. A session of such a store can't hand out a receipt. So
 /// [`Locked::close`](crate::Locked::close) and [`close_with`](crate::close_with) have all of this whenever the keeper
 /// made no entry, whatever the sessions' holders did.
 pub fn a_whole_round_is_shared_out()
@@ -87,11 +87,11 @@ pub fn who_left_stays_away()
         HasLeft worker old new → GrowsInto new later → ¬ IsSubject (graph_of_store later) worker }
 {}
 
-/// What a session knows bounds the reasons for which its calls are refused. Its worker was a subject when the store was
-/// shared, or was made by a spawn whose entry the session has seen. Suppose that no retire is among the entries that
-/// the session made, and that the keeper made no entry of its worker. Then the worker is a subject of each store whose
-/// entries the session sees. A session that has looked sees the entries that it has seen. So none of its calls reports
-/// that there is no such worker. A round whose keeper may end nobody needs no premise on the keeper.
+/// The knowledge of a session bounds the reasons for which its calls are refused. Its worker was a subject when the
+/// store was shared, or was made by a spawn whose entry the session has seen. Suppose that no retire is among the
+/// entries that the session made, and that the keeper made no entry of its worker. Then the worker is a subject of each
+/// store whose entries the session sees. A session that has looked sees the entries that it has seen. So none of its
+/// calls reports that there is no such worker. A round whose keeper may end nobody needs no premise on the keeper.
 pub fn a_session_without_a_retire_is_a_subject()
     ensures from_the_start { (start : SharedStart) (all : List Signed) (s : SessionState) →
         Contains (subjects_at start) s.worker → HasNotLeft start all s → ¬ IsNobodyAtSeen start all s.worker }

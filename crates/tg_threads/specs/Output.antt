@@ -172,10 +172,10 @@ entry_race p entries replies = history_text p entries
 
 -- The text may be written for these lines. Their opening is accepted, and there is a legal history of it. Each command line has one
 -- entry of the history or none, and the history has no other entries. The entries of each worker are in script order. The replies
--- are in script order too. A command line with an entry has the reply of its entry, a command line without an entry has a refusal,
--- and a collection has one line. The store was a new store of that opening when it was shared. A refusal for room in the heap comes
--- from a store that may have been in the lock with the first of these entries. So does the number of a collection. The text is made
--- of the replies.
+-- are in script order too. A command line with an entry has the reply of its entry, and a command line without an entry has a
+-- refusal. A collection has one line. The store was a new store of that opening when it was shared. A refusal for room in the heap
+-- comes from a store that may have been in the lock with the first of these entries. So does the number of a collection. The text
+-- is made of the replies.
 pub record IsRaceOutput (race_text : RaceText) (start : Start) (lines : List Line) (text : List ℕ) : Type 0 where
   pub shared : SharedStart
   pub entries : List Entry
