@@ -269,8 +269,8 @@ const char *tg_status_text(tg_status status);
    nothing is written. They return the length of the whole text, without the 0. The text was cut if this length isn't below
    room. */
 
-/* The text of a denial. It has the rule, and which rights are missing on which edge, as "write: w is missing on 1->2", or what
-   else was wrong. 80 bytes are room for each. */
+/* The text of a denial. It has the rule, and which rights are missing on which edge, as "write: w is missing on 1->2". Or it has
+   the other reason. 80 bytes are room for each. */
 size_t tg_denial_text(const tg_denial *denial, char *text, size_t room);
 
 /* The letters of the rights, in the order rwtgaluv. A bit that is no right has no letter. 9 bytes are room for all. */
@@ -313,10 +313,10 @@ tg_status tg_append(tg_store *store, uint64_t worker, uint64_t target, uint64_t 
    with the remove. The rights that were removed go to *removed, or 0 for none. `removed` and `denial` may be NULL. `from` and
    `to` may be objects, or workers that retired.
 
-   The take is decided first. It is denied if `via`, `from` and the target aren't three vertices, if `via` has no t over `from`, or
-   if `from` lacks some of the rights. Then the grant is decided. It is denied if `to` is `via` or the target, or if `via` has no g
-   over `to`. Both are decided on the graph before the hand. After TG_DENIED the denied command has the only entry, and `rule` of
-   the denial is TG_RULE_TAKE or TG_RULE_GRANT.
+   The take is decided first. It is denied if `via`, `from` and the target aren't three vertices, or if `via` has no t over
+   `from`. It is denied too if `from` lacks some of the rights. Then the grant is decided. It is denied if `to` is `via` or the
+   target, or if `via` has no g over `to`. Both are decided on the graph before the hand. After TG_DENIED the denied command has
+   the only entry, and `rule` of the denial is TG_RULE_TAKE or TG_RULE_GRANT.
 
    Its refusals come in this order. TG_BAD_RIGHTS and TG_NOT_OPEN come first, and then TG_NO_SUCH_WORKER, exactly if no worker has
    the name `via`. TG_OUT_OF_MEMORY comes last, or TG_HEAP_FULL of a hand that is allowed. There is no entry then. */
@@ -450,10 +450,10 @@ tg_status tg_entry(tg_store *store, uint64_t at, tg_record *out, uint64_t *numbe
                    size_t edge_room);
 
 /* Gives up the entries before this place, so that tg_entry no longer reads them. No reply, right or name changes. TG_BAD_PLACE
-   comes exactly if the store is open, and the place is before the first entry that is held (tg_first) or after the place of the
-   next entry (tg_entries). Then nothing is given up. If the place is the place of the first entry, nothing happens. No memory is
-   taken, and the room of these entries serves the next entries. So a host that gives entries up as it goes bounds the memory of a
-   journal. */
+   comes exactly if the store is open, and the place is out of its range. The range is from the first entry that is held
+   (tg_first) to the place of the next entry (tg_entries). Then nothing is given up. If the place is the place of the first entry,
+   nothing happens. No memory is taken, and the room of these entries serves the next entries. So a host that gives entries up as
+   it goes bounds the memory of a journal. */
 tg_status tg_forget(tg_store *store, uint64_t upto);
 
 /* Resumes a store from an entry that another store has made, mostly in a process that ended. A host that kept the entries opens a
@@ -545,21 +545,21 @@ tg_status tg_auditor_close(tg_auditor *auditor);
 
 /* ---- Snapshots
 
-   A snapshot says what a graph is at a place of its history: the active workers, what they reach with what is stored there, and
-   how many entries came before. An auditor goes on from a snapshot, so the parts of an archive are audited side by side, and
-   none of them from the first entry on. A store goes on from one too, also in another process. A host keeps a snapshot as its text. One graph has one text at a place, so two
-   snapshots are compared byte by byte. Whoever writes a snapshot can write a right into it: compare it with the snapshot after
-   the part before (docs/LASTING.md).
+   A snapshot shows a graph at a place of its history. It has the active workers, the vertices that they reach with their numbers,
+   and how many entries came before. An auditor goes on from a snapshot. So the parts of an archive are audited side by side, and
+   none of them from the first entry on. A store goes on from one too, also in another process. A host keeps a snapshot as its
+   text. One graph has one text at a place, so two snapshots are compared byte by byte. Whoever writes a snapshot can write a
+   right into it. Therefore compare it with the snapshot after the part before (docs/LASTING.md).
 
    A tg_snapshot is owned as a tg_auditor is, and what is said of a tg_store at the head of this file holds of it too. */
 
 /* Takes a snapshot of what the auditor has come to, at the auditor's place. The snapshot must be closed, and is open then. The
-   auditor is as it was. It is refused in this order, and *snapshot is then as it was: TG_ALREADY_OPEN exactly where the
-   snapshot is open, TG_NOT_OPEN exactly where the auditor is closed, and TG_BAD_ENTRY if the auditor found a bad entry. An
+   auditor is as it was. It is refused with TG_ALREADY_OPEN exactly if the snapshot is open, and then with TG_NOT_OPEN exactly if
+   the auditor is closed. Then comes TG_BAD_ENTRY, if the auditor found a bad entry. After a refusal *snapshot is as it was. An
    auditor that was opened by these calls and found none is refused for TG_OUT_OF_MEMORY alone. */
 tg_status tg_auditor_snapshot(tg_auditor *auditor, tg_snapshot *snapshot);
 
-/* Opens an auditor that goes on from the snapshot. Its place is the place of the snapshot, so it is fed by a store that holds the
+/* Opens an auditor that goes on from the snapshot. Its place is the place of the snapshot. So it is fed by a store that holds the
    entry of that place, or that makes it next. TG_DONE of a later feed says that the entries from there on are a legal history of
    the graph that the snapshot shows. The snapshot is as it was. It is refused with TG_ALREADY_OPEN exactly if the auditor is
    open, then with TG_NOT_OPEN exactly if the snapshot is closed, and then with TG_OUT_OF_MEMORY. */
@@ -580,8 +580,8 @@ tg_status tg_auditor_reopen(tg_auditor *auditor, tg_snapshot *snapshot);
 tg_status tg_reopen(tg_store *store, tg_snapshot *snapshot, const tg_limits *limits);
 
 /* Writes the text of the snapshot, a line for each thing that it shows. The head that `tgaudit --snapshot` prints has this text,
-   and then a line with the SHA-256 of the part before, which a head of your own may leave out. Room, *length and the 0 are as for
-   tg_entry_text. It is TG_NOT_OPEN exactly if the snapshot is closed. Otherwise it returns TG_DONE or TG_OUT_OF_MEMORY. */
+   and then a line with the SHA-256 of the part before. A head of your own may leave this line out. Room, *length and the 0 are as
+   for tg_entry_text. It is TG_NOT_OPEN exactly if the snapshot is closed. Otherwise it returns TG_DONE or TG_OUT_OF_MEMORY. */
 tg_status tg_snapshot_text(tg_snapshot *snapshot, char *text, size_t room, uint64_t *length);
 
 /* Reads a snapshot from `length` bytes. It returns TG_DONE only if they are exactly the text of the snapshot that it then holds.

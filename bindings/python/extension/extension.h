@@ -3,10 +3,10 @@
    It is one of two back ends. `kovshenul/_backend.py` says what a back end is, and `kovshenul/_by_ctypes.py` is the other
    one. The package looks for the library, and gives this module the addresses of its functions.
 
-   Threads. A short call keeps the interpreter's lock from its last argument to its answer. So nothing comes between. A long
-   call takes the package's lock, and then gives the interpreter's lock up. Before a short call enters the library it waits
-   until no long call is there. While a thread is in the library it runs no code of Python: no handler or finalizer comes
-   between, and no call waits for another one with the package's lock in its hands. */
+   Threads. A short call keeps the interpreter's lock from its last argument to its answer. So nothing comes between. A long call
+   takes the package's lock, and then gives the interpreter's lock up. Before a short call enters the library it waits until no
+   long call is there. While a thread is in the library it runs no code of Python. So no handler or finalizer comes between, and
+   no call that has the package's lock waits for another call. */
 #ifndef KOVSHENUL_EXTENSION_H
 #define KOVSHENUL_EXTENSION_H
 
@@ -139,8 +139,8 @@ bool store_of(struct state *state, PyObject *word, struct store **store);
 /* Raises the refusal with this status, and returns NULL. The worker that asked, or the right that was asked about, may be NULL. */
 PyObject *refused(struct state *state, tg_status status, const uint64_t *worker, const uint64_t *right);
 
-/* None after TG_DONE, or else the exception is raised: of a command whose worker and whose named vertices are the first numbers of
-   what it asked. */
+/* None after TG_DONE, or else the exception is raised. The worker and the named vertices of the command are the first numbers
+   that it asked with. */
 PyObject *decided(struct state *state, tg_status status, const tg_denial *denial, const uint64_t *asked, Py_ssize_t named);
 
 /* The number after TG_DONE, or else the refusal is raised. */

@@ -124,8 +124,8 @@ static tg_status ask_once(struct store *self, const struct holders *asked, uint6
     return library->who_holds(&self->place, asked->words[0], asked->words[1], names, room, count);
 }
 
-/* Asks with room for each vertex of the heap: one walk of the graph finds all of them. The call may be made twice. It runs without
-   the interpreter. The names are the caller's to free. */
+/* Asks with room for each vertex of the heap, so one walk of the graph finds all of them. The call may be made twice. It runs
+   without the interpreter. The names are the caller's to free. */
 static tg_status ask_holders(struct store *self, const struct holders *asked, uint64_t **names, uint64_t *count) {
     const struct library *library = &self->state->library;
     tg_counts counts;

@@ -1,4 +1,5 @@
-"""What a call of the model in plain Python is asked for: numbers, values and edges. The store looks at them in the same order."""
+"""The arguments of a call of the model in plain Python, which are numbers, values and edges. The store looks at them in the same
+order."""
 from __future__ import annotations
 
 from dataclasses import replace

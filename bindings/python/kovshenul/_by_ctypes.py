@@ -43,7 +43,8 @@ UNSERVED = 2**64 - 1
 SHOWING = [number for number, deed in DEEDS.items() if deed in (Listed, Inspect)]
 SHOWN = next(number for number, reply in REPLIES.items() if reply is Edges)
 
-# A target of a pair, and rights by their bits, with no call of Python's in between, and the type that a method of Store hides.
+# A target of a pair, and rights by their bits, with no call of Python's in between. After them comes the type that a method of Store
+# hides.
 target_of = partial(tuple.__new__, Target)
 rights_of = RIGHTS.__getitem__
 list_of = list
@@ -140,8 +141,8 @@ class _Room:
     """What a call asks, and where the library writes what it answers."""
 
     def __init__(self) -> None:
-        # What is put into `asked` must be a number in its range. A call takes it by the cells, which are the same memory: to have
-        # ctypes make an argument of a plain number takes three times as long.
+        # What is put into `asked` must be a number in its range. A call takes it by the cells, which are the same memory. If ctypes
+        # makes an argument of a plain number, the call takes three times as long.
         self.asked = array("Q", [0] * MOST_ASKED)
         cells = (Number.from_buffer(self.asked, 8 * at) for at in range(MOST_ASKED))
         self.first, self.second, self.third, self.fourth = cells
@@ -510,7 +511,7 @@ class Store(_Place):
         self._room = shown
 
     def read_rows(self) -> None:
-        """Reads the row of the call in the middle of which this one is made, if it was served and has not read its row yet."""
+        """Reads the row of the call in whose middle this call is made, if that call was served and has not read its row yet."""
         shown = self._shown
         while shown is not None:
             if shown.has_unread_row():

@@ -68,8 +68,8 @@ class Database:
         raise NotImplementedError
 
     def must_last(self, standby: bool) -> None:
-        """Raises BadSettings if a transaction that is committed now may be lost: by a crash of the machine, and if it is asked
-        for also by the loss of the server."""
+        """Raises BadSettings if a crash of the machine may lose a transaction that is committed now. If it is asked for, it
+        looks at the loss of the server too."""
         raise NotImplementedError
 
     def commit(self) -> None:

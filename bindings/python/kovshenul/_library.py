@@ -50,7 +50,7 @@ library = _loaded(ctypes.CDLL)
 
 
 class PlaceOfC(ctypes.Structure):
-    """A store, or none where all of it is zero; an auditor, a snapshot, an answer and a view are held in the same way."""
+    """A store, or none if all of it is zero. An auditor, a snapshot, an answer and a view are held in the same way."""
 
     _fields_ = [("is_open", ctypes.c_bool), ("at", ctypes.c_void_p)]
 

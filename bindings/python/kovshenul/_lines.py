@@ -1,4 +1,4 @@
-"""Reads the line of an entry, as `str` of the entry writes it. One entry has one line: a number with a leading zero, or rights in
+"""Reads the line of an entry, as `str` of the entry writes it. One entry has one line. A number with a leading zero, or rights in
 another order, make no line."""
 from __future__ import annotations
 
@@ -57,8 +57,8 @@ DEEDS: Dict[str, Tuple[Callable[..., Deed], Dict[str, Reader]]] = {
 
 
 def words_of(line: str) -> Dict[str, str]:
-    """The words of a line under the names of their columns: `worker`, `deed` and `reply`, and those of `via`, `target`,
-    `rights` and `value` that the deed has. It raises a ValueError or a LookupError if the line has other words."""
+    """The words of a line under the names of their columns. These are `worker`, `deed` and `reply`, and of `via`, `target`,
+    `rights` and `value` the columns that the deed has. It raises a ValueError or a LookupError if the line has other words."""
     asked, _, reply = line.partition(" = ")
     worker, deed, *rest = asked.split(" ")
     words = zip(DEEDS[deed][1], rest, strict=True)

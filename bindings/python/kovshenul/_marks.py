@@ -93,7 +93,7 @@ class Marked:
 
 
 def text_of(it: Named, names: Names) -> str:
-    """The text of what the store told, with names beside the numbers."""
+    """The text of an answer of the store, with names beside the numbers."""
     if isinstance(it, Denied):
         return str(Denied(*it.args[:-1], vertices=it.vertices, names=names))
     if isinstance(it, journal.Denied):

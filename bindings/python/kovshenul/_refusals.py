@@ -19,7 +19,7 @@ SENTENCES = {"not distinct": "two vertices that must differ are one", "not log":
 # The names of a store to which the host gave none.
 NO_NAMES: Mapping[int, str] = {}
 
-# What the library says of a denial in numbers: rule, cause, edge from and to, and rights.
+# The numbers of a denial from the library, which are rule, cause, edge from and to, and rights.
 Numbers = Tuple[int, int, int, int, int]
 
 
@@ -150,7 +150,7 @@ class NoSuchWorker(Refused, LookupError):
 
 
 class BadRights(Refused, ValueError):
-    """No right, or a bit that is no right; several rights, where one is asked about."""
+    """No right, or a bit that is no right. Or several rights, if one is asked about."""
 
     status = 64
 
@@ -188,8 +188,8 @@ class BadEdge(Refused, ValueError):
 
 
 class BadValues(Refused, ValueError):
-    """An entry to go on from that no store makes, as one with an empty set of rights; a text that is not that of a snapshot. Of an
-    opening it is kept: no value gives it."""
+    """An entry to go on from that no store makes, as an entry with an empty set of rights. Or a text that is not the text of a snapshot.
+    For an opening it is kept, and no value raises it."""
 
     status = 83
 
@@ -208,8 +208,8 @@ class BadPlace(Refused, IndexError):
 
 
 class NotWhole(Refused):
-    """The journal hasn't all entries since the opening, so that they can't be audited: some were given up, or the store goes on from
-    a snapshot."""
+    """The journal doesn't have all entries since the opening, so they can't be audited. Some were given up, or the store goes on from a
+    snapshot."""
 
     status = 98
 

@@ -243,8 +243,8 @@ class Future:
     """All that those who act can bring about, by a closure.
 
     Each of them makes two objects and a subject. Then they and the new subjects take and grant for as long as that adds a right. A right
-    that is missing at the end never comes: a further object or subject could do what those of its maker did, and nothing else. There are
-    two objects so that one may represent x and the other y.
+    that is missing at the end never comes. A further object or subject could do only the turns that its maker's own objects or subjects
+    did. There are two objects so that one may represent x and the other y.
 
     The closure is a run of the rules, which shows the turns by which a right comes. It has as many names and subjects as it needs, with
     one exception. Nobody is spawned if 64 subjects are active and one of them acts, because nobody else can retire.

@@ -29,8 +29,8 @@ class Vertex(NamedTuple):
 
 @dataclass(frozen=True)
 class Snapshot:
-    """A snapshot of a graph, at a place of its history: the active workers, what they reach with what is stored there, and how many
-    entries came before. `Auditor.snapshot` takes one, and `Auditor.reopen` goes on from it.
+    """A snapshot of a graph, at a place of its history. It has the active workers, the vertices that they reach with their numbers, and how
+    many entries came before. `Auditor.snapshot` takes one, and `Auditor.reopen` goes on from it.
 
     `subjects`, `vertices` and `edges` yield what it shows. Its text has a line for each thing that is shown, and no line feed after the last of them. One graph has one text at a place, so
     equal snapshots are of the same graph. `Snapshot(text)` raises BadValues if no snapshot has the text. The exception's `line` is
@@ -115,7 +115,7 @@ class Snapshot:
 
 
 def _stored_by(text: str) -> Tuple[Value, Tuple[int, ...]]:
-    """The law of a vertex and its numbers, by their text: `s42`, or `l2:7,8` for a log of at most two."""
+    """The law of a vertex and its numbers, by their text, as `s42`, or `l2:7,8` for a log of at most two."""
     law, (first, _, rest) = LAWS[text[0]], text[1:].partition(":")
     if law is Log:
         return Log(int(first)), tuple(int(number) for number in rest.split(",") if number)

@@ -1,5 +1,5 @@
-"""The two tables of a store that is kept in a database: its entries, and the head, which has the snapshot before the first of
-them.
+"""The two tables of a store that is kept in a database. One has its entries, and the other is the head, which has the snapshot
+before the first of them.
 
 The columns of an entry are the words of its line. So a query of the host finds entries by them, and a reader compares them with
 the line. Numbers of vertices and places of a query come as text, because no database has a type for each number below 2^64.

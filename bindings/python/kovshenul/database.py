@@ -9,12 +9,12 @@
         cursor.execute("INSERT INTO note VALUES (?, ?)", (note, "a note"))
     print(note)                                           # a reply is handed on after its transaction
 
-The connection is one of sqlite3, or one of psycopg2 to PostgreSQL. A transaction is committed whole or not at all: the rows of
-the host, and the entries of the commands that the store answered in it. A row of the table has the place of its entry as the
+The connection is one of sqlite3, or one of psycopg2 to PostgreSQL. A transaction is committed whole or not at all. It has the rows
+of the host, and the entries of the commands that the store answered in it. A row of the table has the place of its entry as the
 primary key. So of two writers one fails, which then raises Fenced.
 
 Hand on what the store answered only after the end of the `with`. Before, a crash may take the answer back. If a COMMIT fails or
-has no answer, the journal closes the store and raises Lost, because nobody knows whether the entries are in the table.
+has no answer, nobody knows whether the entries are in the table. Then the journal closes the store and raises Lost.
 `Journal.resume` then opens a store with all entries of the table.
 
 One thread at a time uses a journal, its store and its connection. Other threads and other processes ask a Follower, which has a
@@ -65,7 +65,7 @@ class Fenced(Error):
 
 
 class Older(Error):
-    """The table lacks an entry that was committed: it is an older copy, or that of a standby that didn't have the entry yet.
+    """The table lacks an entry that was committed. It is an older copy, or the table of a standby that didn't have the entry yet.
     Rights that were given up may be back. The journal raises Older from then on. To go on from the older history, make a new
     Journal."""
 
@@ -262,7 +262,7 @@ class Journal:
         return why
 
     def _end_of(self, store: Store, wanted: Iterable[Optional[Last]]) -> Last:
-        """The last entry of a store that has all entries of the table. The table has the wanted ones too, if they weren't
+        """The last entry of a store that has all entries of the table. The table has the requested entries too, if they weren't
         pruned."""
         first, entries = self._tables.first(), store.entries()
         for last in wanted:
@@ -361,7 +361,7 @@ class Journal:
 # ---- readers
 
 class Follower:
-    """A reader of a store that is kept in a database: it has a store of its own, which takes up the entries of the table.
+    """A reader of a store that is kept in a database. It has a store of its own, which takes up the entries of the table.
 
     It opens the store, and takes up all entries. From then on `follow` takes up what is new. It raises what `Journal.resume`
     raises. It writes nothing, so a standby of PostgreSQL may answer it. The answers are those of the writer's store at the same

@@ -10,8 +10,8 @@
 It has the same calls, with the same arguments and answers. It raises the same exceptions and keeps the same journal. The rules are in
 `_rules.py`, written so that they can be read. The store is proved, and the model isn't. The package's tests compare the two.
 
-It is plain Python. The library for C, which the package loads, is asked for texts and for nothing else: those of refusals, of entries,
-of an opening and of a snapshot. `_rules.py` runs without the package.
+It is plain Python. The library for C, which the package loads, is asked only for texts. They are the texts of refusals, of entries, of
+an opening and of a snapshot. `_rules.py` runs without the package.
 
 What it leaves out:
 
@@ -21,7 +21,7 @@ What it leaves out:
 - The room of a census: `vertices` and `payloads` count all that were ever made, and `blocks` is 0.
 - Files, the Auditor, and the lock: one thread at a time may call.
 - The store's turns. An answer of `could` has turns of the model's own, often fewer. Therefore one side may say WantsNames or Open where
-  the other one says Could. A question takes the time of a closure: about a second for 100 vertices.
+  the other one says Could. A question takes the time of a closure, which is about a second for 100 vertices.
 
 The other names of this module are those of `kovshenul`.
 """
@@ -347,7 +347,7 @@ class Store(_Held, Marked):
         return [*self._graph.subjects]
 
     def could(self, x: int, right: int, y: int, silent: Optional[Iterable[int]] = None, as_if: Iterable[Pair] = ()) -> Outlook:
-        """Whether x could ever come to hold the right over y, by any turns of the workers but the silent ones, as if these edges were
+        """Whether x could ever come to hold the right over y, by any turns of the workers that aren't silent, as if these edges were
         there too."""
         names, edges = numbers_in(*self._silent(silent)), edges_in(as_if)
         x, right, y = numbers_in(x, right, y)
@@ -457,7 +457,7 @@ class View(_Held):
         self.closed = False
 
     def could(self, x: int, right: int, y: int) -> Chance:
-        """That x never comes to hold the right over y; that no worker reached x, or Perhaps, which says nothing."""
+        """That x never comes to hold the right over y, or that no worker reached x, or Perhaps, which says nothing."""
         x, right, y = numbers_in(x, right, y)
         must_be_one(right)
         self._must_be_open()
