@@ -2,7 +2,7 @@
  *
  *     cc -O2 -msse2 -o look_ups bench/look_ups.c && ./look_ups 1000000
  *
- * A model of what a look-up touches. 64 rows share the vertices. The index of a row has a table of groups of twelve entries, its names,
+ * A model of the memory that a look-up touches. 64 rows share the vertices. The index of a row has a table of groups of twelve entries, its names,
  * and the numbers of their places, as the kit's map lays them out. It prints nanoseconds a look-up, the least of five times 1,000,000
  * in no order, in four layouts:
  *

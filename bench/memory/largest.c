@@ -1,4 +1,4 @@
-/* A store at the ends of its ranges, and that each call on the way there is answered as it has to be.
+/* A store at the ends of its ranges. Each call on the way to them has to be answered right.
 
    largest blocks    fills 65,536 blocks with vertices of one worker, to the last cell; collects; gives every other one up, collects, and
                      fills the heap again

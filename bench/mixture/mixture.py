@@ -1,6 +1,6 @@
-"""mixture.py: the commands of a server of capabilities, made at random from a seed: 60 of 100 are reads that are served, 15 reads
-that are denied, 5 looks at a row of five edges, 10 grants, 5 creates and 5 removes, by 16 workers. A nursery collection comes after
-each 10,000, and a full one after each 200,000."""
+"""mixture.py: the commands of a server of capabilities, made at random from a seed, by 16 workers. Of 100 commands 60 are reads that
+are served, 15 are reads that are denied, and 5 are looks at a row of five edges. Then there are 10 grants, 5 creates and 5 removes. A
+nursery collection comes after each 10,000, and a full one after each 200,000."""
 import itertools
 import random
 import struct

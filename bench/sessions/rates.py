@@ -6,7 +6,7 @@ in a mutex (plain.rs). Each session makes 33,333 vertices, grants a right over e
 two programs take turns, and a number is the median of N rounds (5 if it is left out). Beside the rate it prints how
 often a thread slept (a voluntary switch, as the kernel counts it) for each command, and the processor time of a command.
 
-OURS and PLAIN are the built programs: run.sh proves and builds them. Without them this script builds both, ours without
+OURS and PLAIN are the built programs, which run.sh proves and builds. Without them this script builds both, ours without
 its proof. It needs rustc and Linux."""
 import argparse
 import os

@@ -108,8 +108,8 @@ PyObject *store_names(PyObject *it, PyObject *unused) {
     return told;
 }
 
-/* What is asked for names of vertices: who holds a right over a vertex, or who still holds some rights once they are withdrawn from
-   all but those to keep. */
+/* A call that is asked for names of vertices. It asks who holds a right over a vertex. Or it withdraws rights from all but the
+   names to keep, and asks who still holds some of them. */
 struct holders {
     bool withdraws;
     uint64_t words[2];
