@@ -1,8 +1,8 @@
-/* Counts what the program that it is loaded into (LD_PRELOAD) asks of malloc and of threads, and tells it in the file
-   that HELD_TELL names, as the numbers of struct told. It refuses the request whose number HELD_REFUSE has, from 1 on, and
-   has the read of standard input fail whose number HELD_READ has, and the write to standard output that HELD_WRITE has.
-   Each piece has a header of its own with the bytes that were asked for, so what is told is the same with every C
-   library. A piece that was taken before is given back as it is. */
+/* It is loaded into a program (LD_PRELOAD), and counts the requests of the program to malloc and for threads. It writes
+   the counts into the file that HELD_TELL names, as the numbers of struct told. It refuses the request whose number
+   HELD_REFUSE has, from 1 on. It has the read of standard input fail whose number HELD_READ has, and the write to standard
+   output that HELD_WRITE has. Each piece has a header of its own with the bytes that were asked for, so the counts are the
+   same with every C library. A piece that was taken before is given back as it is. */
 #define _GNU_SOURCE
 #include <dlfcn.h>
 #include <errno.h>

@@ -1,4 +1,4 @@
-"""Each request for memory that tgaudit, tgcould and tgdot make, refused in turn: tests/held/run tries them."""
+"""Each request for memory that tgaudit, tgcould and tgdot make is refused in turn. tests/held/run tries them."""
 import hashlib
 import os
 import re

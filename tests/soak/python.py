@@ -1,8 +1,8 @@
 #!/usr/bin/env python3
-"""python.py [--calls N] [--valgrind | --refused]: whether calls from Python leave something behind, or break if memory runs out.
+"""python.py [--calls N] [--valgrind | --refused]: whether calls from Python leave memory or objects, or break if memory runs out.
 
-It makes N calls (10,000,000) of every kind: served, denied, refused, and with wrong arguments. After the first tenth and at the end it
-counts blocks, objects, references to what the package shares, and bytes. Exit status 1 if one of these grew.
+It makes N calls (10,000,000) of every kind, which are served, denied, refused, or have wrong arguments. After the first tenth and at
+the end it counts blocks, objects, references to shared objects of the package, and bytes. Exit status 1 if one of these grew.
 
   --valgrind   makes 20,000 calls, or N, under valgrind's memcheck, and fails for each error or lost block that names the library or
                the extension module

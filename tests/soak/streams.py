@@ -8,9 +8,9 @@ Runs the program on streams that fail, and asserts what was written and how it e
   a standard input, output or error that is closed, outputs that are full, and one whose reader is gone;
   a client that writes a part of a line, or a line, and waits, while the program is stopped and goes on.
 
-It prints how many runs there were of each, and stops at the first that is wrong. What is wanted is a run on files, whose
-replies tests/runs has. No call is slow here but by a stop, no descriptor is without waiting, and none is a terminal: these are left out. PROGRAM is
-crates/tgstore/out/tgstore unless it is given."""
+It prints how many runs there were of each, and stops at the first that is wrong. A right run is a run on files, whose replies tests/runs
+has. It leaves out slow calls other than by a stop, descriptors that don't wait, and terminals. PROGRAM is crates/tgstore/out/tgstore unless
+it is given."""
 import argparse
 import itertools
 import os

@@ -1,4 +1,4 @@
-"""A browser without a window, led through a pipe: Chromium, by its DevTools protocol."""
+"""A browser without a window, led through a pipe. It is Chromium, by its DevTools protocol."""
 
 import json
 import os

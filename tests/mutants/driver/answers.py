@@ -1,4 +1,5 @@
-"""The form of the files below a crate's proofs/: answers, each after its goal; lemmas, and holes in their place."""
+"""The form of the files below a crate's proofs/. They have answers, each after its goal, and lemmas, or holes in their
+place."""
 import re
 from collections.abc import Callable
 from textwrap import dedent, indent

@@ -1,5 +1,5 @@
-"""The functions of a crate as they are in its files, by the paths that the checker has for them and for the folders
-of their proofs, and the parts of a function's text."""
+"""The functions of a crate in its files, and the parts of a function's text. A function is named by the path that the
+checker has for it and for the folder of its proofs."""
 import re
 from collections.abc import Iterator
 from dataclasses import dataclass

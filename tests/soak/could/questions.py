@@ -1,12 +1,13 @@
 #!/usr/bin/env python3
 """Asks tgcould about random scripts, and holds its answers against a plain program: questions.py [SEED [SCRIPTS]]
 
-A script has 2 to 4 workers and up to 14 lines; of each graph that one leaves some twenty questions are asked, with random silent
+A script has 2 to 4 workers and up to 14 lines. Some twenty questions are asked of the graph that it leaves, with random silent
 subjects, and edges that are only supposed. Up to 130 names are left, and some questions are about names that aren't made yet. The
-plain program makes objects and a subject for each who acts and does all takes and grants to the end, by the rules written out here.
-Whoever holds a right then could; whoever doesn't never does. Each witness is run after its script by these rules, and by tgstore,
-which has to list the right where x is an active subject. Names more may be wanted only where names are short. tgcould answers
-about the history that tgstore writes of the script as about the script. The programs are those that 'rt run' built."""
+plain program makes objects and a subject for each subject that acts. Then it does all takes and grants to the end, by the rules
+written out here. Whoever holds a right then could hold it, and nobody else ever does. Each witness is run after its script by these
+rules, and by tgstore, which has to list the right if x is an active subject. A witness may need more names only if names are short.
+tgcould answers about the history that tgstore writes of the script as about the script. The programs are those that 'rt run'
+built."""
 
 import argparse
 import random

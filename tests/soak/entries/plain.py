@@ -1,5 +1,5 @@
-"""plain.py: the plain rules over the text of a history. A history is written of random deeds, and a text is judged: which of its lines is
-the first at fault, and why. The rules are those of the model in Python's package. They need no library for C."""
+"""plain.py: the plain rules over the text of a history. It writes a history of random deeds, and judges a text. It says which line of the
+text is the first at fault, and why. The rules are the rules of the model in Python's package. They need no library for C."""
 import random
 import re
 import sys

@@ -1,6 +1,7 @@
-"""The take-grant rules once more, in the plainest form, and a search for an order in which a race's lines get the replies that they got.
+"""The take-grant rules once more, in the plainest form. With them comes a search for an order in which a race's lines get the replies
+that they got.
 
-It shares no code with the program. Of a line that was refused memory or a thread it is taken that it wasn't made."""
+It shares no code with the program. A line that was refused memory or a thread counts as not made."""
 
 ORDER = "rwtgaluv"
 

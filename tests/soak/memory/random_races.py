@@ -1,10 +1,10 @@
 #!/usr/bin/env python3
 """random_races.py [--program FILE] [--races N] [--seed N] [--stay]
 
-Runs random races, 1,000 unless another number is given: scripts of 1 to 8 workers, some of whose lines spawn, retire, name nobody who has a
-thread, or lack a box. Of each output what_is_wrong of runs.py is asked: whether there is an order of the lines in which each gets its
-reply, and each line of a name without a thread is told `refused worker`. In ten of the outputs a wrong reply is then planted, and has to be
-found. With --stay no script has a retire or a name without a thread, and nobody may be told `refused worker`.
+Runs random races, 1,000 unless another number is given. They are scripts of 1 to 8 workers. Some of their lines spawn, retire, name nobody
+who has a thread, or lack a box. For each output what_is_wrong of runs.py says whether there is an order of the lines in which each gets its
+reply. Each line of a name without a thread has to be answered `refused worker`. In ten of the outputs a wrong reply is then planted, and
+has to be found. With --stay no script has a retire or a name without a thread, and no line may be answered `refused worker`.
 
 It prints what the races had, and stops at the first that is wrong, with its script. FILE is crates/tgstore/out/tgstore unless it is given."""
 import argparse

@@ -1,12 +1,13 @@
 #!/usr/bin/env python3
 """refused.py [--tests FILE] [--alone] [--program FILE] [WORD ..]
 
-Runs each test of tests/soak/memory/tests that has each request refused in turn, and then the program on eight small scripts: once for every request
-that it makes, with that one refused. A request is a call for memory, for the start of a thread, or for its attributes. A test must pass; of the
-program what_is_wrong of runs.py is asked. Where nothing is refused each thread that was started must be joined, and with one thread as much memory
-must be given back as where nothing is refused. Then the program is run with two requests refused, with three, and with all from one on, by each of
-its requests. It prints how many runs there were, and stops at the first run that is wrong. With words, only what has one of them in its name is run.
-It needs cc, and what `rt run` leaves. The tests are proved and built first (tests.sh), unless they are given as built or --alone leaves them out."""
+Runs each test of tests/soak/memory/tests that has each request refused in turn, and then the program on eight small scripts. It runs them
+once for every request that they make, with that request refused. A request is a call for memory, for the start of a thread, or for its
+attributes. A test must pass, and the output of the program is judged by what_is_wrong of runs.py. If nothing is refused, each thread that
+was started must be joined. With one thread as much memory must be given back as if nothing is refused. Then the program is run with two
+requests refused, with three, and with all from one on, by each of its requests. It prints how many runs there were, and stops at the first
+run that is wrong. With words, it runs only the tests and scripts that have one of them in their name. It needs cc, and what `rt run`
+leaves. The tests are proved and built first (tests.sh), unless they are given as built or --alone leaves them out."""
 import argparse
 import collections
 import itertools

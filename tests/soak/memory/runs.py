@@ -1,4 +1,4 @@
-"""What refused.py and limits.py share: the scripts, a run of the program, and what of it is right."""
+"""The parts that refused.py and limits.py share. They are the scripts, a run of the program, and the judgement of its output."""
 import os
 import subprocess
 import sys

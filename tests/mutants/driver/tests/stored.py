@@ -1,5 +1,5 @@
-"""What the tests are given: outputs of the checker as it wrote them, a crate of one file, and a check that says what it
-is to say."""
+"""The data of the tests. They are outputs of the checker as it wrote them, a crate of one file, and a check with a
+prescribed output."""
 import tempfile
 import unittest
 from dataclasses import replace
