@@ -1,4 +1,4 @@
-/* What is before the proved calls: NULL for an array of no items and for a denial that isn't wanted, several commands in one
+/* What is before the proved calls: NULL for an array of no items and for a denial that isn't needed, several commands in one
    call, the texts of statuses, denials and rights, and the library's version.
 
    It is tested, and nothing of it is proved. The build names each proved call below proved_.., and links this file with

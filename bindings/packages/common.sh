@@ -70,8 +70,8 @@ files_of_crate() {
     find "$1" -path "$1/out" -prune -o -type f -print
 }
 
-# A sum over what the proved archive is made from, or a program if one is named: the kit, and of its crate and each crate
-# below it the line of crates.txt and the text.
+# A sum over the files from which the proved archive is made, or a program if it is named. They are the kit, and the line of
+# crates.txt and the text of its crate and of each crate below it.
 sum_of_text() {
     (
         set -o pipefail
@@ -87,8 +87,8 @@ sum_of_text() {
     )
 }
 
-# The sum of the text of which the archive was proved, which bindings/build leaves beside it; none where the archive is
-# another one.
+# The sum of the text of which the archive was proved, which bindings/build leaves beside it. There is none if the archive is another
+# one.
 sum_of_proved() {
     text=none
     if test -e "$archive" && test -e "$archive.of"; then
@@ -103,8 +103,8 @@ program_at() {
     echo "$top/crates/$1/out/$1"
 }
 
-# Whether 'bindings/build programs' left the program, as it was proved of the texts that are there now. It keeps a line for
-# each: its name, the sum of its texts and its own.
+# Whether 'bindings/build programs' left the program, as it was proved of the texts that are there now. It keeps a line for each,
+# with its name, the sum of its texts and its own sum.
 is_proved_program() {
     test -x "$(program_at "$1")" && test -e "$out/programs" &&
         grep -qxF "$1 $(sum_of_text "$1") $(sum <"$(program_at "$1")")" "$out/programs"
@@ -125,8 +125,8 @@ sum_of_library() {
     fi
 }
 
-# Whether the library in 'out' fits the header, the modules and the crate which lie here, and with the sum of a text,
-# whether it is of that.
+# Whether the library in 'out' fits the header, the modules and the crate here. With the sum of a text it also says whether the
+# library is of this text.
 is_library_of() {
     test -e "$out/built" || return 1
     read -r of_c of_text of_library <"$out/built"
@@ -134,8 +134,7 @@ is_library_of() {
     test $# = 0 || test "$of_text" = "$1"
 }
 
-# Ends the run where there is no library that fits the header, the modules and the crate which lie here, or an extension module that
-# doesn't fit.
+# Ends the run if there is no library that fits the header, the modules and the crate here, or if an extension module doesn't fit.
 wants_library() {
     test -e "$out/libkovshenul.a" || stop "nothing is built: no $out/libkovshenul.a. Run bindings/build first"
     is_library_of ||
