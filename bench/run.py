@@ -82,7 +82,7 @@ def collections():
 
 
 def fulls(workers):
-    """200 full collections of 30,000 vertices in Old, in the rows of so many workers: what these take alone."""
+    """The cost of 200 full collections of 30,000 vertices in Old alone, in the rows of so many workers."""
     words, lines = vertices_of(workers)
     return words, lines + ["full"] * 201, lines + ["full"]
 
@@ -108,7 +108,7 @@ def holes():
 
 
 def minors():
-    """1,000 nursery collections beside a row of 20,000 vertices in Old, with nothing made between them: what these take alone."""
+    """The cost of 1,000 nursery collections alone, beside a row of 20,000 vertices in Old, with nothing made between them."""
     lines = ["0 create r"] * 20_000 + ["full"]
     return ["--workers", "1", "--stock", "c20000"], lines + ["minor"] * 1_000, lines
 

@@ -51,7 +51,7 @@ static void remove_all(uint64_t first, uint64_t count) {
         want(tg_remove(&store, 0, first + at, TG_READ, &why) == TG_DONE);
 }
 
-/* Makes so many vertices, gives them up, and collects twice; tells of each step. */
+/* Makes so many vertices, gives them up, and collects twice. Prints a line for each step. */
 static void live(uint64_t count) {
     uint64_t first = create();
     for (uint64_t at = 1; at < count; at++)

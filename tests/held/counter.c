@@ -181,7 +181,7 @@ static uint64_t number_in(const char *name) {
     return text ? strtoull(text, NULL, 10) : 0;
 }
 
-/* The program may end without any destructor, so what is told is in the file from the first on. */
+/* The program may end without any destructor, so the counts are in the file from the first on. */
 __attribute__((constructor)) static void begin(void) {
     const char *path = getenv("HELD_TELL");
     int file = path ? open(path, O_RDWR) : -1;

@@ -69,8 +69,8 @@ def run(runs, path, environment, seconds):
 
 
 def is_right(runs, whole, ran):
-    """Whether a run with a refused request is as one without, or out of memory, of which tgaudit tells the line too; a front of
-    the output may be there, and before it what tgcould reports of denied lines."""
+    """Whether a run with a refused request is as a run without, or out of memory. If memory ran out, tgaudit names the line
+    too. A front of the output may be there, and before it the report of tgcould on denied lines."""
     status, output, errors = ran
     if ran == whole:
         return True

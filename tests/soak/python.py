@@ -142,8 +142,8 @@ def made(call):
 
 
 def long_rows(store):
-    """Has a worker list a row that is read from its entry, and asks for names that Python makes objects of, for a room as large,
-    and for an answer with as many turns."""
+    """Has a worker list a row that is read from its entry. Asks for names that Python makes objects of, for a room as large, and for an
+    answer with as many turns."""
     names = [store.create(2, READ, Cell(0)) for _ in range(LONG_ROW)]
     assert len(store.list(2)) == len(list(store.journal())[-1].reply.edges) == LONG_ROW
     assert store.names().issuperset(names)
@@ -228,8 +228,8 @@ def refused_at(api, call, at):
 def must_bear_refusals():
     """Whether each call with each of its first requests refused raises MemoryError or does what it does, and leaves a store that works.
 
-    A call that raises may end by SystemError too: the interpreter does so if it has no memory for a traceback. ctypes makes an
-    ArgumentError of a MemoryError, and reads snapshots over the extension module too."""
+    A call that raises may end by SystemError too, because the interpreter raises it if it has no memory for a traceback. ctypes makes
+    an ArgumentError of a MemoryError, and reads snapshots over the extension module too."""
     try:
         import _testcapi
     except ImportError:

@@ -34,7 +34,7 @@ from .growths import AMOUNT_AT, BY_MORE, BY_ONE, CONSTANT, KIT_NUMBERS, CallsOfT
 from .places import NAMED, Place
 from .sources import Source, Span, arms, compact, level
 
-# A number of at most so many represents itself: a buffer of 64 KiB, and no more than a run can have.
+# A number up to this limit represents itself. The limit is a buffer of 64 KiB, and no more than a run can have.
 MOST = 1 << 16
 
 # What makes elements of nothing, and what is asked for otherwise.
@@ -44,7 +44,7 @@ MAKERS = {"repeat", "repeat_n", "repeat_with", "from_fn", "successors", "cycle",
 OF_SLICES = {"range", "get", "get_mut", "drain", "copy_within"}
 
 LENGTHS = {"len", "count"}
-# The tree's own sizes, each told by a clause: the types that have them.
+# The tree's own sizes, each proved by a clause, with the types that have them.
 SIZES = {
     "made": {"Graph", "Picture", "Trial"},
     "cells": {"Spaces", "Spot"},
@@ -54,8 +54,8 @@ SIZES = {
 
 
 class Amounts:
-    """The rule, over a tree: `found` has what is wrong, and `repeated` the file, the function and the call of each that
-    grows something by more than one in a loop; those in `may` may."""
+    """The rule, over a tree. `found` has the faults. `repeated` has the file, the function and the call of each call
+    that grows something by more than one in a loop. The calls in `may` may do so."""
 
     def __init__(self, sources: list[Source], below: dict[str, set[str]], may: set[Place]):
         self.tree, self.may = CallsOfTree(below), may
@@ -166,7 +166,7 @@ class Amounts:
             self.hold(function, at + width, end, seen)
 
     def hold_name(self, function: Function, at: int, seen: tuple[str, ...]) -> None:
-        """Holds what a name is bound to; that of a parameter is held at each call."""
+        """Keeps the value to which a name is bound. The value of a parameter is kept at each call."""
         name = function.source.words[at]
         simple, is_otherwise = bound_to(function, name)
         is_parameter = name in function.parameters
@@ -351,8 +351,8 @@ class Amounts:
             self.hold(function, less + 1, opened)
 
     def hold_method(self, function: Function) -> None:
-        """A size of the tree is one of a type that is known to have it, and what has the name of a growth of the kit by
-        one grows by one."""
+        """A size of the tree is a size of a type that is known to have it. A call with the name of a growth of the kit
+        by one grows by one."""
         head = (function.start - 1, function.start)
         is_size = function.is_method and not function.parameters
         if is_size and function.owner not in SIZES.get(function.name, {function.owner}):

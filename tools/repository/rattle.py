@@ -23,8 +23,8 @@ class Function:
 
 @dataclass(frozen=True)
 class Clause:
-    """A `requires` or `ensures`: the text between its braces, with each run of blanks as one, and whether it is the
-    last one of a function of a trait, after which a semicolon is."""
+    """A `requires` or `ensures`. It has the text between its braces, with each run of blanks as one. It also says
+    whether it is the last one of a function of a trait, after which a semicolon is."""
 
     text: str
     is_last_of_trait: bool

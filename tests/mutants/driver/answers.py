@@ -49,8 +49,8 @@ def answered_clauses(text: str) -> set[str]:
 
 
 def with_answers(text: str, is_kept: Callable[[str], bool]) -> str:
-    """The answers of the text to goals that are kept. A lemma that isn't kept goes with all that uses it. What is
-    imported from the goals of the function, and not used any more, goes too: without a clause its paths are gone."""
+    """The answers of the text to goals that are kept. A lemma that isn't kept goes with all that uses it. An import
+    from the goals of the function that isn't used any more goes too, because without a clause its paths are gone."""
     head, *parts = re.split(r"^(?=pub |abbrev |module |[^\s]+ : )", text, flags=re.M)
     gone = [part for part in parts if not all(map(is_kept, names_of(part)))]
     # what is gone grows as it is gone over

@@ -31,8 +31,8 @@ class Trial:
 
 @dataclass(frozen=True)
 class Standing:
-    """Where a trial is in a scratch copy: the path of its function there, and the clauses that have to refuse it, as
-    its goals name them."""
+    """The place of a trial in a scratch copy. It has the path of its function there, and the clauses that have to
+    refuse it, as its goals name them."""
 
     trial: Trial
     function: str
@@ -105,7 +105,8 @@ def plant_in_place(tree: Tree, folder: Path, trial: Trial) -> None:
 
 
 def keep_answers(path: Path, aside: frozenset[str], left_out: set[str]) -> None:
-    """Takes answers away from a file of a function's proof: those set aside, and those to clauses that are left out."""
+    """Takes answers away from a file of a function's proof. They are answers that were set aside, and answers to
+    clauses that are left out."""
     if path.name != PROOF:
         kept = with_answers(read_text(path), lambda goal: goal not in aside and named_ensures(goal) not in left_out)
         write_text(path, kept)
@@ -113,7 +114,7 @@ def keep_answers(path: Path, aside: frozenset[str], left_out: set[str]) -> None:
 
 def with_proof(tree: Tree, folder: Path, trial: Trial, copy: Copy, number: int) -> tuple[list[str], Standing]:
     """The lines of a copy of a function, and where it is. Its proof is put into the folder. The copy has only the
-    clauses that have to refuse the mutant: the others aren't searched for."""
+    clauses that have to refuse the mutant. The others aren't searched for."""
     mutant, function = trial.mutant, copy.function
     name = f"{function.name}_{number}"
     path = "::".join([*function.path.split("::")[:-1], name])
@@ -133,9 +134,9 @@ def with_proof(tree: Tree, folder: Path, trial: Trial, copy: Copy, number: int) 
 
 
 def take_by_contract(folder: Path, crate: str, checked: list[str], copies: dict[str, list[list[str]]]) -> None:
-    """Leaves the contract of each function of the crate in the folder that isn't checked: a hole stands in the place of
-    its proof, since `--only` proves what a function calls, too, and nothing that runs in its body. A function of a
-    trait's `impl`, and one that calls itself, keeps both. Puts the copies of a function after it."""
+    """Leaves the contract of each function of the crate in the folder that isn't checked. A hole is in the place of its
+    proof, because `--only` also proves the functions that a function calls, and nothing that runs in its body. A
+    function of a trait's `impl`, and one that calls itself, keeps both. Puts the copies of a function after it."""
     there = functions_of(folder / "src")
     for function in sorted(there, key=lambda function: function.first, reverse=True):
         file = folder / "src" / function.file

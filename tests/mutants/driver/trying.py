@@ -24,7 +24,8 @@ UNWANTED = (Outcome.PROVED, Outcome.ELSEWHERE, Outcome.NOT_FOUND, Outcome.NOT_JU
 @dataclass
 class Run:
     """A run over a tree, whose built libraries are in a folder, with so many checks at a time. If it is limited, it
-    tries what is due, and begins a group only if as many processor seconds are left as the dearest group took."""
+    tries the mutants that are due. It begins a group only if as many processor seconds are left as the dearest
+    group took."""
 
     tree: Tree
     libraries: Path

@@ -13,13 +13,14 @@ from .check import LIMIT, FunctionReport, Report
 from .mutant import Mutant
 from .scratch import Trial, copy_of, has_answers, plant
 
-# What a mutant may name in the place of the answers that don't fit it: any of them.
+# The word that a mutant may name in the place of the answers that don't fit it, for any of them.
 ANY = ("any",)
 
 # How often a mutant is checked, each time without the answers that didn't fit the last time.
 ROUNDS = 4
 
-# What checks functions of a crate in a folder: `check.check` over libraries of a tree, or a test's output.
+# A function that checks functions of a crate in a folder. It is `check.check` over libraries of a tree, or a test's
+# output.
 Check = Callable[[str, Path, list[str]], Report]
 
 

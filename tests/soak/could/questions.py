@@ -79,8 +79,8 @@ class Graph:
         return True
 
     def closed(self, silent):
-        """The graph after all takes and grants of those who act, one object of each, and another object of each; `made` is that of
-        the first graph."""
+        """The graph after all takes and grants of the subjects that act, with one object of each, and another object of each. `made`
+        is the number of the first graph."""
         graph = self.copy()
         actors, objects, others = self.subjects - silent, [], []
         moving = set(actors)
@@ -167,7 +167,7 @@ def random_questions(rnd, graph):
 
 
 def is_short(graph, x, y):
-    """Whether a question may be answered with names more: y was made, and fewer than 64 names are left, or 64 with x."""
+    """Whether the answer to a question may need more names. Then y was made, and fewer than 64 names are left, or 64 with x."""
     left = graph.limit - graph.made
     return y < graph.made and (left < 64 or graph.made <= x < graph.limit and left < 65)
 
@@ -239,8 +239,8 @@ class Checker:
         assert told == len(self.asked), (told, self.asked)
 
     def listed(self, asked):
-        """The names that a star may represent, beside how each is written: those that were made, and as `new` one that is made later
-        and isn't asked about."""
+        """The names that a star may represent, beside how each is written. They are the names that were made, and `new` for a name
+        that is made later and isn't asked about."""
         made = self.graph.made
         return [*((name, str(name)) for name in range(made)), (made + 1 if asked == made else made, "new")]
 

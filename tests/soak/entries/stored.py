@@ -22,7 +22,7 @@ NO_ENTRY = re.compile(r"refused (memory|heap|stock|threads|worker)\n")
 
 
 def history_of(row: Row) -> tuple[str, int]:
-    """The text of the history that a row's script and its replies tell."""
+    """The text of the history of a row's script and its replies."""
     said = dict(zip(row.words[::2], row.words[1::2]))
     workers, limit = int(said.get("--workers", 2)), int(said.get("--vertices", 1_000_000))
     boxes = [NEW[kind] for kind, count in re.findall(r"([csml])([0-9]*)", said.get("--stock", "")) for _ in range(int(count or 1))]

@@ -66,7 +66,7 @@ class Scripts:
 # ---- wrong replies, each of which no order allows
 
 def served_behind_its_retire(script, replies):
-    """A line of a worker who retired is told `ok`."""
+    """A line of a worker who retired is answered `ok`."""
     gone = set()
     for at, line in enumerate(script.lines):
         x, _, rest = line.partition(" ")
@@ -78,26 +78,26 @@ def served_behind_its_retire(script, replies):
 
 
 def a_name_given_twice(script, replies):
-    """Two makings are told one name."""
+    """Two makings are answered by one name."""
     made = [at for at, line in enumerate(script.lines) if (" create " in line or " spawn " in line) and replies[at].startswith(b"ok ")]
     return (made[-1], replies[made[0]]) if len(made) > 1 else None
 
 
 def a_number_that_was_not_written(script, replies):
-    """A read is told a number that no line writes."""
+    """A read is answered by a number that no line writes."""
     read = [at for at, line in enumerate(script.lines) if " read " in line and replies[at].startswith(b"ok ")]
     return (read[0], b"ok 1234567") if read else None
 
 
 def a_line_without_a_thread(script, replies):
-    """A line of a name that has no thread is told `ok`."""
+    """A line of a name that has no thread is answered `ok`."""
     workers = int(script.words[1])
     others = [at for at, line in enumerate(script.lines) if " " in line and int(line.split()[0]) >= workers]
     return (others[0], b"ok") if others else None
 
 
 def an_edge_more(script, replies):
-    """A list is told an edge to a vertex that is never made."""
+    """A list is answered by an edge to a vertex that is never made."""
     listed = [at for at, line in enumerate(script.lines) if line.endswith(" list") and replies[at].startswith(b"ok")]
     return (listed[0], replies[listed[0]] + b" 999999:r") if listed else None
 

@@ -42,7 +42,8 @@ class Refuser:
         subprocess.run(["cc", "-O2", "-fPIC", "-shared", "-o", self.library, source, "-ldl"], check=True)
 
     def environment(self, at, plan):
-        """That of a run in which the request of this number is refused, with those of the plan; none with 0."""
+        """The environment of a run in which the request of this number is refused, with the requests of the plan. With 0 none is
+        refused."""
         with open(self.tell, "wb") as file:
             file.write(bytes(TOLD.size))
         numbers = f"{at}-" if plan is None else ",".join(str(at + behind) for behind in plan)
@@ -76,7 +77,8 @@ def what_is_left(told, whole):
 
 
 def try_each(name, refuser, run, plan):
-    """Refuses each request of a run in turn, with those of the plan; `run` answers what is wrong with it and how it ended, given the environment."""
+    """Refuses each request of a run in turn, with the requests of the plan. `run` is given the environment, and returns the fault of the
+    run and how it ended."""
     starts = beside = 0
     ends = collections.Counter()
     whole = None

@@ -133,9 +133,9 @@ def knows(way, program=PROGRAM):
 def what_is_wrong(script, way, run, program=PROGRAM):
     """Why the run isn't one that lack of memory may leave, or None.
 
-    With status 1 one line is on standard error and nothing was answered. With status 0 each line has its reply, and the lines
-    that were not refused are answered as in a run of them alone. Of a race there has to be an order in which they get their replies
-    (orders.py), and its end has their number of entries; of one with many lines, only that each has its reply."""
+    With status 1 one line is on standard error and nothing was answered. With status 0 each line has its reply, and the lines that
+    were not refused are answered as in a run of them alone. For a race there has to be an order in which they get their replies
+    (orders.py), and its end has their number of entries. In a race with many lines each only has to have its reply."""
     if run.status == 1:
         is_told = len(run.faults) == 2 and run.faults[0].startswith(b"tgstore: ") and run.faults[1] == b""
         return None if is_told and run.replies == [b""] else f"status 1, with {run.faults} and {run.replies[:3]}"

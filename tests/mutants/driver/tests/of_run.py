@@ -90,7 +90,7 @@ class WhatIsTried(OfASmallCrate):
         self.assertIn("\n0 refused, 0 found by tests, 0 not\n", told)
 
     def test_the_time_ends_a_limited_run(self):
-        # (the first group takes 400 seconds of 600: too few are left for another one)
+        # (the first group takes 400 seconds of 600, so too few are left for another group)
         self.assertIn("3 in all, 3 due, 1 tried; a sample drawn by ", self.run_of("abc", True, [0, 400]))
 
     def test_what_is_due_is_tried_within_the_time(self):

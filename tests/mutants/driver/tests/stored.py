@@ -81,7 +81,7 @@ class OfASmallCrate(InARoom):
         self.put({f"crates/small/{file}": text for file, text in files.items()})
         self.put({"crates.txt": "small: # no library\n"})
         self.tree = Tree(self.top)
-        # what is said in each check in turn, and when its first lines came, and what was checked: functions and files
+        # the output of each check in turn, when its first lines came, and the functions and files that were checked
         self.says: list[str] = []
         self.seconds: list[float] = []
         self.asked: list[tuple[list[str], dict[str, str]]] = []
