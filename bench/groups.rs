@@ -3,10 +3,10 @@
 //!     rustc -O -o groups bench/groups.rs && ./groups
 //!
 //! A model of the table of the kit's map. It has groups of twelve entries, of which 9 are in use on average if the table is full. A
-//! full group goes on in the next group. The program puts rows of several kinds into a table of 1,024 groups (unless another number
-//! is given), as long as they fit, and looks each name up. It does so for four hashes. The first is the hash of the index, by which
-//! four names that follow one another share a group. In the second and third two and eight names share a group. The fourth is a hash
-//! of whole names. It prints the mean, and the most for one name.
+//! full group goes on in the next group. The program has a table of 1,024 groups, unless another number is given. It puts rows of
+//! several kinds into it, as long as they fit, and looks each name up. It does so for four hashes. The first is the hash of the
+//! index, by which four names that follow one another share a group. In the second and third two and eight names share a group. The
+//! fourth is a hash of whole names. It prints the mean, and the most for one name.
 
 use std::collections::HashSet;
 

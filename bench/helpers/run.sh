@@ -5,9 +5,9 @@
 # are rows of 64 workers, a tree, and a tree whose cells are shuffled. It proves, builds and runs the program and proofs beside it
 # (`main.rt.in`, FUNCTION.FILE.antt.in), with the crates that it needs, in a temporary folder. The two take turns, and a number is the
 # best of three medians. It prints two tables. The first is with malloc as it comes, which gives freed memory back to the system, and
-# the second with malloc that keeps it. With --instructions it counts in place of this, by valgrind, the instructions of one thread and
-# of one seated helper for a cell of the smaller heaps. It needs cc and awk. If ghc is found, GHC's own collector with one thread and
-# with two comes below (GcBench.hs).
+# the second with malloc that keeps it. With --instructions it counts instructions for a cell of the smaller heaps, by valgrind. They
+# are of one thread and of one seated helper. It needs cc and awk. If ghc is found, GHC's own collector with one thread and with two
+# comes below (GcBench.hs).
 set -eu
 here=$(cd "$(dirname "$0")" && pwd)
 top=$(cd "$here/../.." && pwd)

@@ -1,9 +1,9 @@
 /* The memory that a store holds where its user may not see it, in bytes of malloc after each step of a store's life.
 
    held [VERTICES]: worker 0 makes the vertices (100,000 unless another number is given), gives up its rights over each, and
-   collects twice. Then it makes, gives up and collects ten vertices. Beside the journal the memory of a peak stays. It has blocks
-   that are kept for the next collection, the index of a row that shrank, and the tables of payloads and of remembered places. The
-   last line is of a store that never had a vertex more, with as many entries.
+   collects twice. Then it makes, gives up and collects ten vertices. Beside the journal the memory of a peak stays. There are
+   blocks that are kept for the next collection, and the index of a row that shrank. There are the tables of payloads and of
+   remembered places. The last line is of a store that never had a vertex more, with as many entries.
 
    Build, after bindings/check: cc -O2 -I bindings -o held bench/memory/held.c bindings/out/libkovshenul.a */
 #include "kovshenul.h"

@@ -1,7 +1,7 @@
 #!/usr/bin/env python3
 """stars.py [PROGRAM] [--most VERTICES]
 
-Counts, under valgrind, the instructions of a question with a star and of a question about two vertices, on scripts that make 1,000,
+Counts, under valgrind, the instructions of a question with a star and of a question about two vertices. The scripts make 1,000,
 10,000 and 80,000 vertices. It says whether the first takes at most 20 times as many as the second. No clause speaks of this cost. A
 question about each vertex by itself lists the same.
 

@@ -1,11 +1,11 @@
 #!/usr/bin/env python3
 """hostile.py [PROGRAM] [--only WORD] [-- WORD ..]
 
-Runs the store on scripts of 1 MiB that are made to be slow, one after the other, and prints for each how many lines it has, how many bytes
-are written for it and the processor time of the whole program. No script has a `list`, whose replies may come to gigabytes, or an `inspect`
-of a long row. Only scripts that say so have a collection. Exit status 1 if a script took over a second, or didn't end as it has to. PROGRAM
-is crates/tgstore/out/tgstore unless it is given. With --only it runs only the scripts whose name has the word. The words after -- are
-handed to the program too, as --race."""
+Runs the store on scripts of 1 MiB that are made to be slow, one after the other. For each it prints how many lines it has, how many bytes
+are written for it, and the processor time of the whole program. No script has a `list`, whose replies may come to gigabytes, or an
+`inspect` of a long row. Only scripts that say so have a collection. Exit status 1 if a script took over a second, or didn't end as it has
+to. PROGRAM is crates/tgstore/out/tgstore unless it is given. With --only it runs only the scripts whose name has the word. The words after
+-- are handed to the program too, as --race."""
 import collections
 import itertools
 import os

@@ -1,12 +1,12 @@
 #!/usr/bin/env python3
 """streams.py [PROGRAM]
 
-Runs the program on streams that fail, and asserts what was written and how it ends:
+Runs the program on streams that fail, and asserts its output and how it ends. The runs are of these kinds:
 
-  reads and writes, each in turn, that fail with EIO, are interrupted, or take nothing (by strace, and else left out);
-  reads and writes of one byte a call (the writes by strace too);
-  a standard input, output or error that is closed, outputs that are full, and one whose reader is gone;
-  a client that writes a part of a line, or a line, and waits, while the program is stopped and goes on.
+  - reads and writes that fail with EIO, are interrupted, or take nothing, each in turn. This needs strace, and else is left out
+  - reads and writes of one byte a call. The writes need strace too
+  - a standard input, output or error that is closed, outputs that are full, and an output whose reader is gone
+  - a client that writes a part of a line, or a line, and waits, while the program is stopped and goes on
 
 It prints how many runs there were of each, and stops at the first that is wrong. A right run is a run on files, whose replies tests/runs
 has. It leaves out slow calls other than by a stop, descriptors that don't wait, and terminals. PROGRAM is crates/tgstore/out/tgstore unless

@@ -1,5 +1,5 @@
-"""The named places: where a text may be that the rules of refusals.py and amounts.py don't allow, word by word as it
-stands there, and why. What is named and isn't there is a fault, too."""
+"""The named places, at which a text may be that the rules of refusals.py and amounts.py don't allow. Each has the text word
+by word, and the reason. A text that is named and isn't there is a fault, too."""
 
 # A file, a function in it, and words that are there.
 Place = tuple[str, str, str]

@@ -18,8 +18,8 @@ NO_SEARCH = "#[tactic(none)]\n"
 
 @dataclass(frozen=True)
 class Trial:
-    """A mutant as it is tried without some of the answers of its function, alone or beside its right function, or the
-    right function in the same way. If it isn't searched, only its answers are checked."""
+    """A mutant as it is tried without some of the answers of its function, alone or beside its right function. It may
+    also be the right function, tried in the same way. If it isn't searched, only its answers are checked."""
 
     mutant: Mutant
     # the goals of these answers
@@ -135,8 +135,9 @@ def with_proof(tree: Tree, folder: Path, trial: Trial, copy: Copy, number: int) 
 
 def take_by_contract(folder: Path, crate: str, checked: list[str], copies: dict[str, list[list[str]]]) -> None:
     """Leaves the contract of each function of the crate in the folder that isn't checked. A hole is in the place of its
-    proof, because `--only` also proves the functions that a function calls, and nothing that runs in its body. A
-    function of a trait's `impl`, and one that calls itself, keeps both. Puts the copies of a function after it."""
+    proof. The reason is that `--only` also proves the functions that a function calls, and nothing that runs in its
+    body. A function of a trait's `impl`, and one that calls itself, keeps both. Puts the copies of a function after
+    it."""
     there = functions_of(folder / "src")
     for function in sorted(there, key=lambda function: function.first, reverse=True):
         file = folder / "src" / function.file

@@ -21,7 +21,7 @@ impl Draw {
     }
 }
 
-// rows[c][x]: the vertices over which x has the letter c, a bit each. Names are written so far apart. Names between them are of
+// rows[c][x] has the vertices over which x has the letter c, a bit each. Names are written so far apart. Names between them are of
 // vertices without edges, so that the program beside it numbers the vertices that there are.
 #[derive(Clone)]
 struct Graph {

@@ -2,9 +2,9 @@
 """Tries the built tgaudit on texts of histories, whole and altered: tests/soak/entries/altered.py [SEED [TEXTS]]
 
 The text of each random legal history is handed in as it is, which must pass, and then once for each kind of alteration. An alteration
-changes a reply, a worker or a name, swaps two lines, loses a line, has a line twice, or cuts the end. plain.py says by the rules of the
-plain model which line is the first at fault, and why. tgaudit has to say the same. After some alterations, as two reads that change places,
-the text is still the text of a legal history. Then it has to pass. Counts how many were found."""
+changes a reply, a worker or a name, swaps two lines, loses a line, has a line twice, or cuts the end. The module plain.py says by the rules
+of the plain model which line is the first at fault, and why. The program has to say the same. After some alterations, as two reads that
+change places, the text is still the text of a legal history. Then it has to pass. Counts how many were found."""
 import argparse
 import random
 import re

@@ -4,8 +4,8 @@
 The files are the files of tests/runs/kept.py. One is of a run that was closed, and one of a run that wasn't. Each is cut at each of
 its bytes, and each of its bits is flipped. In the file of the run that wasn't closed each byte of the last batch is also a zero, alone
 and with all after it. A plain reader of lines says what tgaudit has to print of each file. It prints how many entries and batches
-there are, the last line, how the run ended, and the line and the byte of a damage. --front has to write the whole lines of every
-hundredth file."""
+there are, the last line, how the run ended, and the line and the byte of a damage. With --front it has to write the whole lines of
+every hundredth file."""
 import argparse
 import subprocess
 import sys

@@ -1,8 +1,9 @@
 #!/usr/bin/env python3
 """Has the built tgaudit audit what tgstore answers to the stored scripts: tests/soak/entries/stored.py
 
-Of each row of tests/runs/scripts the text of its history is put together out of the lines, the replies that are stored, and the boxes of its stock. It
-must pass. A collection has no entry, and neither has a line that was refused, but for lack of vertices or of room for a subject."""
+The text of the history of each row of tests/runs/scripts is put together. It is made of the lines, the stored replies, and the boxes of the
+stock. It must pass. A collection has no entry, and neither has a line that was refused, but for lack of vertices or of room for a
+subject."""
 import argparse
 import re
 import subprocess
