@@ -434,8 +434,7 @@ tg_status tg_census(tg_store *store, tg_counts *counts);
    memory is taken. */
 tg_status tg_names(tg_store *store, uint64_t *names, size_t room, uint64_t *count);
 
-/* Counts the entries that the journal ever had, with the entries that were given up (tg_forget). The next entry gets this place.
-   */
+/* Counts all entries of the journal, with the entries that were given up (tg_forget). The next entry gets this place. */
 tg_status tg_entries(tg_store *store, uint64_t *count);
 
 /* Writes the place of the first entry that the journal holds to *first. It is 0 until entries are given up. If no entry is

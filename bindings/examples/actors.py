@@ -1,13 +1,13 @@
 """A small actor system.
 
 An actor's mailbox is a log, and its address is the log's vertex. An edge to the vertex is the right to send to it. Actors send numbers, and
-addresses that they hold. An actor can't make an address up: the store denies what its edges don't allow.
+addresses that they hold. An actor can't make an address up, because the store denies what its edges don't allow.
 
 The system is the store's only worker, and acts for the actors. It holds an address while it runs the actor, while messages wait there, or
 for as long as the host asked it to (`keep`). It holds no other, so an idle actor lives as long as another actor that lives holds its address.
 A full collection removes all others, rings of actors too.
 
-An actor never loses an address that it was sent, because no rule takes an edge from a vertex, and only a worker gives its own up. An actor
+An actor never loses an address that it was sent. No rule takes an edge from a vertex, and only a worker gives up its own edges. An actor
 that serves many others for long starts a new actor in its place now and then.
 """
 from collections import deque

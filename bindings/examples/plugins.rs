@@ -1,8 +1,8 @@
-//! A host of plug-ins. Each plug-in is a worker that the host spawns and grants rights to. It has no more than those: what it isn't
-//! allowed is denied. When it is unloaded it leaves, with all that it held, and nothing is answered to its name any more.
+//! A host of plug-ins. Each plug-in is a worker that the host spawns and grants rights to. It has no other rights, so all else is
+//! denied. When it is unloaded it leaves, with all that it held, and nothing is answered to its name any more.
 //!
-//! Before the host hands a right on it asks whether a document that it guards would stay out of reach: not only now, but whatever
-//! the plug-ins do together while the host does nothing.
+//! Before the host hands a right on, it asks whether a document that it guards would stay out of reach. The question covers
+//! whatever the plug-ins do together while the host does nothing.
 use kovshenul::{Chance, Edge, Error, Kind, Limits, Rights, Store, Value};
 
 const HOST: u64 = 0;

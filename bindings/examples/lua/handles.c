@@ -179,7 +179,7 @@ static int make(lua_State *state) {
     return 1;
 }
 
-/* handle:send(number) adds to a log, or writes to what is none. */
+/* handle:send(number) adds to a log, or writes to an object that is none. */
 static int handle_send(lua_State *state) {
     uint64_t worker = plugin_of(state)->worker, target = handle_at(state, 1), number = (uint64_t)luaL_checkinteger(state, 2);
     tg_denial why;
@@ -203,7 +203,7 @@ static int handle_read(lua_State *state) {
     return (int)count;
 }
 
-/* handle:rights() returns the letters of what the plug-in holds over the object. */
+/* handle:rights() returns the letters of the rights that the plug-in holds over the object. */
 static int handle_rights(lua_State *state) {
     char letters[9];
     tg_rights_text(rights_of(plugin_of(state)->worker, handle_at(state, 1)), letters, sizeof letters);
@@ -252,7 +252,7 @@ static int handle_lose(lua_State *state) {
     return 0;
 }
 
-/* box:put(handle, rights) lets the box hold rights over an object: who may take from the box may then take them. */
+/* box:put(handle, rights) lets the box hold rights over an object. A plug-in that may take from the box may then take them. */
 static int handle_put(lua_State *state) {
     uint64_t box = handle_at(state, 1), target = handle_at(state, 2), rights = rights_at(state, 3);
     tg_denial why;
@@ -284,7 +284,7 @@ static int handle_get(lua_State *state) {
     return (int)count;
 }
 
-/* handle == other: several handles may be to one object. */
+/* handle == other, because several handles may be to one object. */
 static int handle_equal(lua_State *state) {
     const uint64_t *one = luaL_testudata(state, 1, handle_type), *other = luaL_testudata(state, 2, handle_type);
     lua_pushboolean(state, one != NULL && other != NULL && *one == *other);

@@ -21,7 +21,7 @@ enum {
     TEXT_ROOM = 200            /* bytes of an error that a script gets */
 };
 
-/* A vertex and how many handles a plug-in has to it: those in its Lua state, and those that wait in its inbox. */
+/* A vertex and how many handles a plug-in has to it. They are in its Lua state, or wait in its inbox. */
 struct holding {
     uint64_t vertex;           /* or NONE: the place is free */
     unsigned handles;
@@ -97,7 +97,7 @@ void open_handles(lua_State *state);
 /* Puts a handle into the plug-in's inbox. Returns false if the plug-in has no room. */
 bool deliver(struct plugin *plugin, uint64_t vertex);
 
-/* Counts a vertex that the worker holds as held, without a handle: receive() makes the first one. There is a place for it. */
+/* Counts a vertex that the worker holds, without a handle. receive() makes the first handle. There is a place for it. */
 void hold_again(struct plugin *plugin, uint64_t vertex);
 
 /* ---- library.c */
@@ -121,7 +121,7 @@ bool is_safe(uint64_t holder, uint64_t vertex, uint64_t rights, char *text, size
 /* Makes room for one more resource. Returns false if there is no memory. */
 bool make_room(void);
 
-/* Keeps a resource beside a vertex that was just made: its name, who made it, and whether it is a log. There is room. */
+/* Keeps a resource beside a new vertex. It has its name, who made it, and whether it is a log. There is room. */
 void keep(uint64_t vertex, const char *name, const char *maker, bool is_of_log);
 
 /* Gives the object another name and maker, if a resource is kept for it. */
@@ -151,7 +151,8 @@ bool is_in_file(const char *name);
 /* Starts the plug-ins of the file anew whose workers are active. Their scripts are FOLDER/NAME.lua. */
 void start_again(const char *folder);
 
-/* Gives up what the host holds and shouldn't: what it took in the middle of a hand, and edges to workers that have left. */
+/* Gives up edges that the host holds and shouldn't. They are edges that it took in the middle of a hand, and edges to workers
+   that have left. */
 void tidy_host(uint64_t secret);
 
 /* Closes the file and removes it. */

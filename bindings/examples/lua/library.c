@@ -63,7 +63,7 @@ static int repeat(lua_State *state) {
     return 1;
 }
 
-/* A library, and the functions of it that a script gets: some as they are, others through a guard. */
+/* A library, and the functions of it that a script gets. Some are as they are in Lua, and others go through a guard. */
 struct part {
     const char *name;
     lua_CFunction library;
@@ -93,7 +93,7 @@ static void push_part(lua_State *state, const struct part *part) {
     lua_pop(state, 1);
 }
 
-/* Texts have methods, as in ("x"):rep(3): those of the table at the top, in the place of all that Lua has. */
+/* Texts have methods, as in ("x"):rep(3). They are the functions of the table at the top, in the place of all that Lua has. */
 static void give_to_texts(lua_State *state) {
     lua_pushliteral(state, "");
     lua_getmetatable(state, -1);

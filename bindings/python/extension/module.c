@@ -123,7 +123,7 @@ static bool adds_type(PyObject *module, PyType_Spec *spec, PyTypeObject **kept) 
     return is_added;
 }
 
-/* Adds the names of the functions whose addresses are wanted. */
+/* Adds the names of the functions whose addresses are needed. */
 static bool adds_calls(PyObject *module) {
     PyObject *calls = PyTuple_New(CALLS);
     for (int call = 0; calls != NULL && call < CALLS; call++) {

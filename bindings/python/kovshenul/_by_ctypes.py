@@ -156,8 +156,8 @@ class _Room:
         self.state_at = byref(self.state)
         self.record = Entry()
         self.record_at = byref(self.record)
-        # While a list or an inspect uses the room: its edges once they were read from its entry, and the room of the call
-        # in the middle of which it was made.
+        # While a list or an inspect uses the room, it has its edges once they were read from its entry. It also has the room of the
+        # call in whose middle it was made.
         self.row: Optional[Array[c_uint64]] = None
         self.outer: Optional[_Room] = None
 

@@ -19,7 +19,7 @@ UNREAD = "line {}: not as it is due in the text of a snapshot, which begins with
 
 
 class Vertex(NamedTuple):
-    """A vertex of a snapshot. `value` has its law: it makes such a vertex. `numbers` are what the vertex stores, as `Store.read`
+    """A vertex of a snapshot. `value` has its law, and makes a vertex like it. `numbers` are what the vertex stores, as `Store.read`
     returns them. A Log begins empty, so only `numbers` say what a log stores."""
 
     name: int

@@ -347,8 +347,8 @@ class Store(_Held, Marked):
         return [*self._graph.subjects]
 
     def could(self, x: int, right: int, y: int, silent: Optional[Iterable[int]] = None, as_if: Iterable[Pair] = ()) -> Outlook:
-        """Whether x could ever come to hold the right over y, by any turns of the workers that aren't silent, as if these edges were
-        there too."""
+        """Whether x could ever come to hold the right over y, as if these edges were there too. Any turns of the workers that aren't
+        silent count."""
         names, edges = numbers_in(*self._silent(silent)), edges_in(as_if)
         x, right, y = numbers_in(x, right, y)
         must_be_one(right)

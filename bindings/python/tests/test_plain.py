@@ -52,7 +52,7 @@ RUNS, MOST_RUNS = 80, 400
 FEW, MANY = 8, 60
 SMALL, QUESTIONS = 9, 6
 
-# That x could hold a right. Each side has turns of its own: those of one may need more names, or not be known.
+# That x could hold a right. Each side has turns of its own. The turns of one side may need more names, or not be known.
 COULD = (outlook.Could, outlook.WantsNames, outlook.Open)
 
 NUMBERS = (0, 1, 7, 40, 2**63, 2**64 - 1)
