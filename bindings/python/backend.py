@@ -1,8 +1,9 @@
 """Makes the wheel, with the shared object and the extension module that bindings/build has made: python3 backend.py FOLDER [NOTE ..]
 
-pip calls build_wheel too, for 'pip wheel' and 'pip install' of this folder. The library is bindings/out's, or the one that
+pip calls build_wheel too, for 'pip wheel' and 'pip install' of this folder. The library is bindings/out's, or the library that
 KOVSHENUL_LIBRARY names. The same files make the same bytes. Their times are SOURCE_DATE_EPOCH, or the time of 1980 if it isn't set.
-Each NOTE is a file that goes beside the wheel's metadata, and with notes goes SHA256SUMS, of all files before it. """
+Each NOTE is a file that goes beside the wheel's metadata, and with notes goes SHA256SUMS, of all files before it.
+"""
 import base64
 import hashlib
 import os
@@ -21,7 +22,7 @@ LEAST_GLIBC = (2, 5)
 
 
 def told(name):
-    """What the project's page of settings says."""
+    """The project's page of settings."""
     return re.search(rf'(?m)^{name} = "(.*)"$', PROJECT).group(1)
 
 

@@ -71,7 +71,8 @@ static bool reads_addresses(struct library *library, PyObject *addresses) {
     return true;
 }
 
-/* Keeps what is given in the place of what was given before. */
+/* Keeps the given value in the place of the value that was given
+   before. */
 static void keep(struct given *given, PyObject *words) {
 #define ONE(name) \
     do { \

@@ -22,8 +22,8 @@ MOST_SIGNED = 2**63 - 1
 
 
 class BadSettings(Error, ValueError):
-    """The connection or its server is set so that a crash may take back what was committed. The text says which setting it is,
-    and what to set. Nothing was changed."""
+    """The connection or its server is set so that a crash may take back what was committed. The text names the setting and the
+    right value. Nothing was changed."""
 
 
 class InTransaction(Error, RuntimeError):
@@ -45,7 +45,7 @@ class Database:
     """A connection to a database of one kind."""
 
     columns: ClassVar[Columns]
-    # What represents a value in a statement.
+    # The text that represents a value in a statement.
     mark: ClassVar[str]
 
     def __init__(self, connection: Any) -> None:
@@ -64,7 +64,7 @@ class Database:
         raise NotImplementedError
 
     def must_be_same(self) -> None:
-        """Raises Ended if the transaction isn't the one that `begin` began, or if it has failed."""
+        """Raises Ended if the transaction isn't the transaction that `begin` began, or if it has failed."""
         raise NotImplementedError
 
     def must_last(self, standby: bool) -> None:
@@ -73,7 +73,7 @@ class Database:
         raise NotImplementedError
 
     def commit(self) -> None:
-        """Commits the transaction. What it raises doesn't say whether the transaction was committed."""
+        """Commits the transaction. Its exceptions don't say whether the transaction was committed."""
         raise NotImplementedError
 
     def roll_back(self) -> None:

@@ -26,7 +26,7 @@ def number_in(bits: int, it: int) -> int:
 
 
 def _loaded(kind: Type[ctypes.CDLL]) -> ctypes.CDLL:
-    """The library that the variable names, else the one beside this file, else the one that the system finds."""
+    """The library that the variable names, else the file beside this module, else the library that the system finds."""
     beside = Path(__file__).with_name(NAME)
     named = os.environ.get("KOVSHENUL_LIBRARY")
     path = named or (str(beside) if beside.exists() else NAME)
@@ -61,7 +61,7 @@ def address_of(name: str) -> int:
 
 
 def text_of(status: int) -> str:
-    """What a status says."""
+    """The outcome that a status reports."""
     return library.tg_status_text(status).decode()
 
 

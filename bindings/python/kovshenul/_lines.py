@@ -77,7 +77,7 @@ def entry_of_line(line: str) -> Entry:
 
 
 def _reply(deed: str, words: List[str]) -> Reply:
-    """What was answered to a deed."""
+    """The reply to a deed."""
     kind, *rest = words
     if kind == "denied":
         return _denial(*rest)

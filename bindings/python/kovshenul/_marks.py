@@ -15,7 +15,7 @@ Names = Mapping[int, str]
 # The fields of a deed and of a reply that are vertices.
 VERTICES = ("via", "target", "name")
 
-# What has a text with names.
+# A value that has a text with names.
 Named = Union[int, Denied, journal.Denied, Entry, Turn]
 
 
@@ -108,7 +108,7 @@ def text_of(it: Named, names: Names) -> str:
 
 
 def _asked(worker: int, deed: Deed, names: Names) -> str:
-    """Who asked, and for what."""
+    """The worker that asked, and its deed."""
     return " ".join([shown(worker, names), type(deed).__name__.lower(), *_words(vars(deed), names)])
 
 
@@ -126,7 +126,7 @@ def _words(fields: Mapping[str, object], names: Names) -> Iterable[str]:
 
 
 def _answered(reply: Reply, names: Names) -> str:
-    """What was answered."""
+    """The reply."""
     if isinstance(reply, journal.Denied):
         return f"denied {_cause(reply, names)}"
     if isinstance(reply, (journal.VerticesFull, journal.WorkersFull)):

@@ -26,7 +26,7 @@ def edges_in(edges: Iterable[Tuple[int, int, int]]) -> bytes:
 
 
 def value_in(value: Value) -> bytes:
-    """What a vertex stores at first."""
+    """The value that a vertex stores at first."""
     try:
         return value._packed
     except AttributeError:

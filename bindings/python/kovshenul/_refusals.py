@@ -12,7 +12,7 @@ CAUSES = ("not distinct", "missing", "not log")
 
 MISSING = CAUSES.index("missing")
 
-# What a denial says that is of no rights.
+# The texts of denials that are of no rights.
 SENTENCES = {"not distinct": "two vertices that must differ are one", "not log": "the target stores no log"}
 
 
@@ -228,7 +228,7 @@ SINGLE = [int(right) for right in Rights]
 
 
 def refusal(status: int, worker: Optional[int] = None, right: Optional[int] = None) -> Refused:
-    """The refusal with this status, of what this worker asked for, or of a question about this right."""
+    """The refusal with this status, of a call of this worker, or of a question about this right."""
     kind = BY_STATUS.get(status, Refused)
     if kind is NoSuchWorker and worker is not None:
         return kind(status, f"no such worker: no active subject has the name {index(worker)}")

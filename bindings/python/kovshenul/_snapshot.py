@@ -106,7 +106,7 @@ class Snapshot:
         return int(made), int(limit), int(entries)
 
     def _lines(self, word: str) -> Iterator[Tuple[str, ...]]:
-        """What follows the word in each line that begins with it."""
+        """The rest of each line that begins with the word."""
         return (tuple(line.split(" ")[1:]) for line in self.text.split("\n") if line.startswith(word))
 
     def _packed(self) -> bytes:

@@ -60,12 +60,12 @@ class Store(Held, Marked):
         entries: Iterable[Entry],
         trusted: Iterable[int] = (),
     ) -> Own:
-        """Opens a store that goes on from the entries of another one, which was opened with the same workers, edges and
+        """Opens a store that goes on from the entries of another store, which was opened with the same workers, edges and
         `max_vertices`. They begin at the first entry.
 
-        The store does the deed of each entry again, and compares the replies. So nobody has to believe the entries. They are a
-        legal history of this opening. The store then gives each later reply as the other one would. It raises what `go_on`
-        raises, and the store is closed then. Entries have no marks of the host: `trusted` are workers after the last entry.
+        The store does the deed of each entry again, and compares the replies. So nobody has to believe the entries. They are a legal
+        history of this opening. The store then gives each later reply as the other one would. It raises what `go_on` raises, and the
+        store is closed then. Entries have no marks of the host, so `trusted` names workers after the last entry.
         """
         store = cls(workers, edges, limits)
         try:
@@ -79,10 +79,11 @@ class Store(Held, Marked):
     def go_on(self, at: int, entries: Iterable[Entry]) -> None:
         """Goes on from the entries of another store, of which the first has this place. Any store may, also one that took commands.
 
-        The `at` of what it raises is the place of the entry at which it stopped. It raises BadValues if no store makes such an
-        entry, and BadPlace if it isn't the next. It raises BadEntry if the entry isn't legal, because it was altered or is of
-        another opening. The store is closed then. It raises OutOfMemory or HeapFull if there is no room for it, also after a
-        full collection. After any of these but BadEntry the store has all entries before that place, and goes on from there. """
+        The `at` of its exception is the place of the entry at which it stopped. It raises BadValues if no store makes such an entry, and
+        BadPlace if it isn't the next. It raises BadEntry if the entry isn't legal, because it was altered or is of another opening. The
+        store is closed then. It raises OutOfMemory or HeapFull if there is no room for it, also after a full collection. After any of
+        these but BadEntry the store has all entries before that place, and goes on from there.
+        """
         for place, entry in enumerate(entries, at):
             packed = entry_in(entry)
             try:
@@ -98,7 +99,8 @@ class Store(Held, Marked):
         snapshot. `Auditor.reopen` opens an auditor for it from the same snapshot.
 
         It raises BadLimits if `max_vertices` isn't the number of the first store, or another limit is out of its range. It raises
-        BadWorkers if the snapshot has no worker. A snapshot has no marks of the host: `trusted` are workers of the snapshot. """
+        BadWorkers if the snapshot has no worker. A snapshot has no marks of the host, so `trusted` names workers of the snapshot.
+        """
         if not isinstance(snapshot, Snapshot):
             raise TypeError(f"a snapshot is wanted, and not {short_of(snapshot)}")
         store = cls.__new__(cls)
@@ -128,10 +130,10 @@ class Store(Held, Marked):
             raise self._with_names(denial)
 
     def hand(self, via: int, source: int, to: int, target: int, rights: int) -> Rights:
-        """Hands rights on. The worker `via` takes the rights over the target from `source`, grants them to `to`, and removes those of
-        them that it didn't hold before. This is done completely or left undone. Afterwards `to` holds the rights over the target too,
-        and all else is as it was. Each command has an entry, so there are two, or three with the remove. Returns the rights that were
-        removed, which may be none.
+        """Hands rights on. The worker `via` takes the rights over the target from `source`, grants them to `to`, and removes the rights
+        that it didn't hold before. This is done completely or left undone. Afterwards `to` holds the rights over the target too, and all
+        else is as it was. Each command has an entry, so there are two, or three with the remove. Returns the rights that were removed,
+        which may be none.
 
         The take is decided first, and then the grant, both on the graph before the hand. If one is denied, its entry is the only
         one, and the exception's `rule` says which it is.
@@ -238,7 +240,8 @@ class Store(Held, Marked):
 
         A denial is a reply, and the next command is taken after it. A batch of more commands raises BadLimits, and a batch with a bad
         set of rights raises BadRights. Nothing of it is done. Any other refusal is that of the first command that is refused. Its
-        `replies` are those of the commands before it, which are done, and those after it aren't asked for. """
+        `replies` are the replies of the commands before it, which are done. The commands after it aren't asked for.
+        """
         status, entries = self._place.apply_all(worker, commands_in(commands))
         replies = [entry_of(*entry).reply for entry in entries]
         if status:
@@ -268,13 +271,14 @@ class Store(Held, Marked):
 
         A collection changes no answer, and the journal gets no entry. It raises BadRights if `right` isn't one right, and NoSuchWorker
         if a silent name is no worker. It raises BadEdge if a supposed edge joins a vertex to itself, or has an end that no worker
-        reaches. """
+        reaches.
+        """
         return outlook_of(*self._place.could(*scene_in(self._silent(silent), as_if), x, right, y))
 
     def view(self, silent: Optional[Iterable[int]] = None, as_if: Iterable[Tuple[int, int, int]] = ()) -> View:
-        """Opens a view of what the workers reach, in which the silent ones take no turns, as if these edges were there too. The
-        silent ones are those of `could`. The journal gets no entry. It is refused as `could` is for a silent one or a supposed
-        edge."""
+        """Opens a view of the vertices that the workers reach, in which the silent workers take no turns, as if these edges were there
+        too. The silent workers are the workers of `could`. The journal gets no entry. It is refused as `could` is for a silent one or a
+        supposed edge."""
         return View(self, silent, as_if)
 
     def collect(self, kind: int = Kind.FULL) -> int:
@@ -291,7 +295,7 @@ class Store(Held, Marked):
         return self._place.names()
 
     def entries(self) -> int:
-        """Returns how many entries the journal ever had, with those that were given up. The next entry gets this place."""
+        """Returns how many entries the journal ever had, with the entries that were given up. The next entry gets this place."""
         return self._place.entries()
 
     def first(self) -> int:

@@ -100,7 +100,7 @@ class Tables:
 
     def move_head(self, old: Head, new: Head) -> bool:
         """Puts a later head in the place of an old one, and deletes the entries before it but for the last of them. It changes
-        nothing if the head is another one by now. Returns whether it moved the head."""
+        nothing if the head was replaced. Returns whether it moved the head."""
         statement = f"UPDATE {self.of_head} SET first = ?, snapshot = ? WHERE first = ?"
         if self.database.run(statement, new.first, str(new.snapshot), old.first) == 0:
             return False

@@ -140,9 +140,9 @@ class Target(NamedTuple):
 
 
 class Counts(NamedTuple):
-    """What the heap has, with the vertices that nobody reaches until a full collection frees them. Then how many entries were
-    made, how many of these are held, and how many are denials or found a limit reached. A refusal without an entry is in none of
-    these numbers. At last, how many collections of each kind were done since the store was opened, also if they moved nothing."""
+    """The sizes of the heap, with the vertices that nobody reaches until a full collection frees them. Then how many entries were made, how
+    many of these are held, and how many are denials or found a limit reached. A refusal without an entry is in none of these numbers. At
+    last, how many collections of each kind were done since the store was opened, also if they moved nothing."""
 
     vertices: int
     payloads: int

@@ -23,7 +23,7 @@ What it leaves out:
 - The store's turns. An answer of `could` has turns of the model's own, often fewer. Therefore one side may say WantsNames or Open where
   the other one says Could. A question takes the time of a closure, which is about a second for 100 vertices.
 
-The other names of this module are those of `kovshenul`.
+The other names of this module are the names of `kovshenul`.
 """
 from __future__ import annotations
 
@@ -67,12 +67,12 @@ Own = TypeVar("Own", bound="_Held")
 
 
 class _Held:
-    """What is open or closed, as a store and a view are."""
+    """An object that is open or closed, as a store and a view are."""
 
     closed = True
 
     def close(self) -> None:
-        """Closes it. What is closed may be closed again."""
+        """Closes it. A closed object may be closed again."""
         self.closed = True
 
     def _must_be_open(self) -> None:
@@ -134,7 +134,7 @@ class Store(_Held, Marked):
         self._ask(worker, kind(*named, Rights(rights)), *named, rights)
 
     def hand(self, via: int, source: int, to: int, target: int, rights: int) -> Rights:
-        """`via` takes rights over the target from `source`, grants them to `to`, and removes those of them that it lacked."""
+        """`via` takes rights over the target from `source`, grants them to `to`, and removes the rights that it lacked."""
         via, source, to, target, rights = numbers_in(via, source, to, target, rights)
         must_be_rights(rights)
         self._must_work(via)
@@ -177,7 +177,7 @@ class Store(_Held, Marked):
         return self._make(Create, worker, rights, value)
 
     def spawn(self, worker: int, rights: int, value: Value, trusted: bool = False) -> int:
-        """Makes a worker over which the one who asks has the rights, and returns its name."""
+        """Makes a worker over which the asking worker has the rights, and returns its name."""
         name = self._make(Spawn, worker, rights, value)
         if trusted:
             self._trusted.add(name)
@@ -205,7 +205,7 @@ class Store(_Held, Marked):
         entries: Iterable[Entry],
         trusted: Iterable[int] = (),
     ) -> Own:
-        """Opens a store that goes on from the entries of another one. They begin at the first entry."""
+        """Opens a store that goes on from the entries of another store. They begin at the first entry."""
         store = cls(workers, edges, limits)
         store.go_on(0, entries)
         store._trust_each(trusted)
@@ -355,11 +355,12 @@ class Store(_Held, Marked):
         return self._foresight(names, edges).answer(x, right, y)
 
     def view(self, silent: Optional[Iterable[int]] = None, as_if: Iterable[Pair] = ()) -> View:
-        """A view of what the workers reach at the moment."""
+        """A view of the vertices that the workers reach at the moment."""
         return View(self, silent, as_if)
 
     def _foresight(self, silent: Tuple[int, ...], as_if: List[Pair]) -> Foresight:
-        """What answers the questions about the graph with the supposed edges. It is kept for as long as there is no other entry."""
+        """The searcher that answers the questions about the graph with the supposed edges. It is kept for as long as there is no other
+        entry."""
         must_be_rights(*[rights for _, _, rights in as_if])
         self._must_be_open()
         if not {*silent} <= {*self._graph.subjects}:
@@ -436,7 +437,7 @@ class Store(_Held, Marked):
 
 
 def _reply(deed: Deed, answer: object) -> Reply:
-    """What the journal says of a command that was served."""
+    """The reply in the journal to a command that was served."""
     if isinstance(deed, journal.Read):
         return journal.Values(answer)
     if isinstance(deed, (journal.List, journal.Inspect)):
