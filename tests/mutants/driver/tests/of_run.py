@@ -20,8 +20,7 @@ from ..verdict import Outcome
 from .stored import ANSWERS, LEMMAS, LIB, InARoom, OfASmallCrate, mutant_with
 
 COUNTS = "pub trait Counts {\n    fn count(&self) -> u64\n        ensures* { result ≤ 9 };\n}\n"
-RUN =
-"""
+RUN = """
 import sys, tempfile, time
 from driver.rooms import in_a_room
 in_a_room(lambda: (tempfile.mkdtemp(), print("begun", flush=True), time.sleep(60)))
