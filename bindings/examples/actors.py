@@ -43,7 +43,7 @@ class Actor:
 
 
 class System:
-    """The actors of a store, and the queue of those that have mail."""
+    """The actors of a store, and the queue of the actors that have mail."""
 
     def __init__(self, store):
         self.store, self.actors, self.queue, self.running = store, {}, deque(), None
@@ -59,7 +59,8 @@ class System:
         return Address(name)
 
     def send(self, to, message):
-        """Sends a number or an address. Denied if the actor that runs doesn't hold the address, or the one that it sends."""
+        """Sends a number or an address. Denied if the actor that runs doesn't hold the address of the message, or the address that it
+        sends."""
         self.borrow(to.name)
         mailbox = self.actors[to.name]
         try:
@@ -72,7 +73,7 @@ class System:
             self.let_go(to.name)
 
     def number_of(self, to, message):
-        """The number that says the message. The one who gets an address gets the edge with it."""
+        """The number that says the message. An actor that gets an address gets the edge with it."""
         if not isinstance(message, Address):
             return message
         if message.name != to:

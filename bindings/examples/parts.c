@@ -61,7 +61,7 @@ static tg_status go_on(tg_store *store, tg_auditor *auditor, const tg_limits *li
     return status;
 }
 
-/* The host makes a sum and lets the guest add to it. The guest adds, and once writes to what isn't its own. */
+/* The host makes a sum and lets the guest add to it. The guest adds, and once writes to an object that isn't its own. */
 static tg_status command(tg_store *store, uint64_t number) {
     static const tg_value sum = { TG_SUM, 0, 0 };
     static uint64_t name;

@@ -20,7 +20,7 @@ struct Loaded<'a> {
     worker: u64,
 }
 
-/// What the host has over a plug-in's worker.
+/// The rights that the host has over a plug-in's worker.
 fn over_plugins() -> Rights {
     Rights::GRANT | Rights::INSPECT
 }
@@ -75,7 +75,7 @@ fn load<'a>(store: &mut Store, plugin: &'a Plugin, document: u64) -> Result<Load
     Ok(Loaded { plugin, worker })
 }
 
-/// Runs a plug-in, and says what came of it. What isn't served ends the plug-in's work, and the host goes on.
+/// Runs a plug-in, and says what came of it. A call that isn't served ends the plug-in's work, and the host goes on.
 fn run(store: &mut Store, loaded: &Loaded<'_>, document: u64) -> Result<(), Error> {
     let name = loaded.plugin.name;
     match (loaded.plugin.run)(store, loaded.worker, document) {

@@ -1,4 +1,4 @@
-# What bindings/build, check, install and release share. The one that reads this has its own folder in 'here'.
+# The parts that bindings/build, check, install and release share. A script that reads this has its own folder in 'here'.
 
 top=$(dirname "$here")
 out=$here/out
@@ -55,7 +55,7 @@ needs() {
 
 # ---- sums
 
-# The sum of what comes in.
+# The sum of standard input.
 sum() {
     sha256sum | cut -d ' ' -f 1
 }
@@ -87,8 +87,8 @@ sum_of_text() {
     )
 }
 
-# The sum of the text of which the archive was proved, which bindings/build leaves beside it. There is none if the archive is another
-# one.
+# The sum of the text of which the archive was proved, which bindings/build leaves beside it. There is none if the archive has
+# changed.
 sum_of_proved() {
     text=none
     if test -e "$archive" && test -e "$archive.of"; then
@@ -145,7 +145,7 @@ wants_library() {
 
 # ---- Python's extension module
 
-# The folder with the headers of Python, or nothing where they aren't there, or are those of a Python before 3.11.
+# The folder with the headers of Python. There is nothing if they aren't there, or if they are of a Python before 3.11.
 headers_of_python() {
     python3 - <<'TEXT'
 import pathlib, sys, sysconfig
@@ -180,13 +180,13 @@ put() {
     install -m 644 "$1" "$2/"
 }
 
-# Puts a file of bindings/packages into a folder, with what it leaves open filled in. The third word is the prefix.
+# Puts a file of bindings/packages into a folder, with its open places filled in. The third word is the prefix.
 fill() {
     escaped=$(printf '%s' "${3-}" | sed 's/[\\|&]/\\&/g')
     sed "s|@PREFIX@|$escaped|; s|@SHARED@|$shared|; s|@VERSION@|$version|" "$here/packages/$1.in" >"$2/$1"
 }
 
-# What C needs, below a folder. The second word is what pkg-config reads as the prefix.
+# The files that C needs, below a folder. The second word is the prefix that pkg-config reads.
 put_for_c() {
     cmake=$1/lib/cmake/kovshenul
     mkdir -p "$1/lib/pkgconfig" "$cmake"
@@ -200,7 +200,7 @@ put_for_c() {
     put_pages "$1/share/man"
 }
 
-# The programs that were proved, and the one that makes pages of runs.
+# The programs that were proved, and the program that makes pages of runs.
 put_programs() {
     for program in $programs; do
         ! is_proved_program "$program" || install -D -m 755 "$(program_at "$program")" "$1/bin/$program"

@@ -91,7 +91,7 @@ def clauses(source: str) -> Iterator[Clause]:
 
 
 def end_of_braces(text: str, at: int) -> int:
-    """The place after the brace that shuts the one that was opened before this place."""
+    """The place after the brace that shuts the brace that was opened before this place."""
     depth = 1
     while depth > 0:
         depth += {"{": 1, "}": -1}.get(text[at], 0)

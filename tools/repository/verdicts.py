@@ -19,7 +19,7 @@ NAMED = re.compile(r"\b\w+(?:::\w+)+")
 # Unsafe code of a source file: the line, with the comment before it.
 UNSAFE = re.compile(r"(?:^ *//.*\n)*^.*\bunsafe (?:impl|fn|\{).*\n", re.M)
 
-# What finds the text of an axiom, or None if the toolchain has none.
+# The function that finds the text of an axiom, or None if the toolchain has none.
 TextOf = Callable[[str], str | None]
 
 

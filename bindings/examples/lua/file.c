@@ -5,7 +5,7 @@
    started again with the same words. The new process has the store do each entry again (tg_resume), and the store compares the
    replies. So nobody has to believe the file. After an altered entry the host doesn't start.
 
-   What a kill may leave, and what the new process does about it:
+   A kill may leave one of these, which the new process mends:
    - half a part at the end of the file. It is cut off, as if its command had never been asked for
    - rights that the host held in the middle of a hand. The host gives them up
    - a worker whose plug-in isn't in the file yet. The worker leaves
@@ -27,7 +27,7 @@ enum kind { ENTRY = 1, PLUGIN, OBJECT, RULE, SECRET };
 
 enum { SWEEP = 4096 };         /* entries between two collections while the file is read */
 
-/* What each part begins with. */
+/* The head of each part. */
 struct head {
     uint64_t kind, size;       /* size: how many bytes follow */
 };

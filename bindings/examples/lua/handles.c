@@ -1,7 +1,7 @@
-/* What a script may do with handles.
+/* The calls of a script on handles.
 
-   A handle is a userdata with the name of a vertex. A script can't make one, and it can't see the name. What it may do with it,
-   the store answers at each call, in the name of the plug-in's worker. So a handle alone is no right.
+   A handle is a userdata with the name of a vertex. A script can't make one, and it can't see the name. At each call the store
+   decides, in the name of the plug-in's worker. So a handle alone is no right.
 
    The other way round a right is no longer than its handles. Each vertex has a count of its handles in this plug-in. The
    finalizer of the last handle gives up the rights over the vertex, and then the store's collector may free it. */
@@ -10,9 +10,9 @@
 #include <string.h>
 
 enum {
-    COMMAND_STEPS = 100,       /* what a command of the store charges a turn: it makes an entry in the journal */
-    POLICY_STEPS = 2000,       /* what a question to the policy charges */
-    COLLECT_STEPS = 20000,     /* what a collection of the state charges */
+    COMMAND_STEPS = 100,       /* the charge for a command of the store, which makes an entry in the journal */
+    POLICY_STEPS = 2000,       /* the charge for a question to the policy */
+    COLLECT_STEPS = 20000,     /* the charge for a collection of the state */
     MOST_NUMBERS = 64,         /* numbers in a log */
     MOST_IN_BOX = 32,          /* edges of a box that a get looks at */
     MOST_LINE = 500            /* bytes of a line that a script says */
@@ -102,7 +102,7 @@ bool deliver(struct plugin *plugin, uint64_t vertex) {
     return true;
 }
 
-/* ---- arguments, and what goes wrong */
+/* ---- arguments and errors */
 
 static uint64_t handle_at(lua_State *state, int argument) {
     return *(uint64_t *)luaL_checkudata(state, argument, handle_type);
@@ -136,8 +136,8 @@ static void write_denial(const tg_denial *why, char *text, size_t room) {
     }
 }
 
-/* Saves the entry of a command, and raises what isn't done as an error of the script. The word is the one that the script called. `why` is NULL for a call that is
-   never denied. */
+/* Saves the entry of a command, and raises what isn't done as an error of the script. The word is the name of the call of the
+   script. `why` is NULL for a call that is never denied. */
 static void done_or_raise(lua_State *state, const char *word, tg_status status, const tg_denial *why) {
     char text[TEXT_ROOM];
     save();
@@ -291,7 +291,7 @@ static int handle_equal(lua_State *state) {
     return 1;
 }
 
-/* tostring(handle), from what the host keeps beside the vertex. */
+/* tostring(handle), from the resource that the host keeps beside the vertex. */
 static int handle_text(lua_State *state) {
     char text[KNOWN_ROOM];
     lua_pushstring(state, known_as(handle_at(state, 1), text, sizeof text));

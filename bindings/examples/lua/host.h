@@ -1,4 +1,4 @@
-/* What the files of the host share. docs/LUA.md says in which order to read them. */
+/* The parts that the files of the host share. docs/LUA.md says in which order to read them. */
 #ifndef HOST_H
 #define HOST_H
 
@@ -68,7 +68,7 @@ extern struct plugin plugins[MOST_PLUGINS];
    the plug-in, or NULL if it didn't start, and then says why. */
 struct plugin *start_plugin(const char *name, const char *file, uint64_t number);
 
-/* Starts a plug-in anew after the host was killed, as the worker that it was. It has handles to what the worker holds. */
+/* Starts a plug-in anew after the host was killed, as the worker that it was. It has handles to all that the worker holds. */
 void restart_plugin(const char *name, const char *file, uint64_t number, uint64_t worker);
 
 /* Lets the script run until it waits, ends, fails or hangs. A plug-in that isn't waiting then leaves. */
@@ -142,7 +142,7 @@ uint64_t collect(void);
 
 /* ---- file.c. Without a file these save nothing. */
 
-/* Opens the file, or makes it, and goes on from what it has. Returns the secret that the file has, or NONE. */
+/* Opens the file, or makes it, and goes on from its content. Returns the secret that the file has, or NONE. */
 uint64_t open_file(const char *name);
 
 /* Whether the file has a plug-in with this name, running or not. */
