@@ -474,7 +474,8 @@ pub record AddsUp (start entries made entered : ℕ) (sessions : List SessionSta
   -- each entry is counted, if no session is missing
   pub count : parts_of sessions ≡ made → entries ≡ start + entered + handed_of sessions + count_of sessions
 
--- A session that handed out no receipt and took over nobody has receipts of all entries of its worker among these, in their order.
+-- A session that handed out no receipt and took over nobody has receipts of all entries of its worker among these entries, in their
+-- order.
 abbrev pub HasAll : List Entry → SessionState → Type 0
 HasAll entries s = s.handed ≡ 0 → s.parts ≡ 1 → map (λ r. r.entry) s.receipts ≡ own_entries s.worker entries
 

@@ -174,10 +174,10 @@ impl<L: Round> Keeper<L> {
         ended
     }
 
-    /// The picture of what the active subjects reach, by one call of [`Locked::picture`](crate::Locked::picture) under
-    /// the lock. It is the picture of the graph after exactly the entries that the keeper has then seen. Sessions wait
-    /// while all reached rows are read. Questions are asked of the picture afterwards, without the lock. It makes no
-    /// entry and no receipt. Fails only when out of memory.
+    /// The picture of the vertices that the active subjects reach, by one call of
+    /// [`Locked::picture`](crate::Locked::picture) under the lock. It is the picture of the graph after exactly the
+    /// entries that the keeper has then seen. Sessions wait while all reached rows are read. Questions are asked of the
+    /// picture afterwards, without the lock. It makes no entry and no receipt. Fails only when out of memory.
     pub fn picture<P: Payload, R: Wait>(
         &mut self,
         rt: &R,

@@ -317,9 +317,9 @@ impl<L: Round, P: Payload> Locked<L, P> {
         self.store.label(session.worker(), target)
     }
 
-    /// The picture of what the active subjects reach on the store's graph, by one call of the store. It changes
-    /// nothing, and makes no entry and no receipt. The lock is held while all reached rows are read. Fails only when
-    /// out of memory.
+    /// The picture of the vertices that the active subjects reach on the store's graph, by one call of the store. It
+    /// changes nothing, and makes no entry and no receipt. The lock is held while all reached rows are read. Fails only
+    /// when out of memory.
     pub fn picture(&self, alloc: Global) -> Result<Picture, AllocError>
         ensures { (g : ProtectionGraph) → StandsFor self.now.store g → IfOk result (λ picture. IsReachedPicture picture g) }
     {

@@ -76,8 +76,8 @@ pub record LeavesPaying (old new : StoreState) (before after : SessionState) (fu
   pub never_full : result ≢ Err (Store HeapFull)
   pub refused : OnErr result (RecordsNothing old new before after × (rest ≡ full))
 
--- So many vertices and entries may be shared out of a store with these blanks, by the ledgers that have these names and so many
--- parts. The blanks are the ledgers'. There is a part for each vertex and each entry, and so many vertices may still be made.
+-- So many vertices and entries may be shared out of a store with these blanks. The ledgers have these names and so many parts. The
+-- blanks are the ledgers'. There is a part for each vertex and each entry, and so many vertices may still be made.
 pub record MayShareOut (vertices vertex_parts entries entry_parts : ℕ) (blanks : PurseBlanks) (whole : Portion) (store : StoreState) : Type 0 where
   pub of_vertices : (blanks.vertices.name ≡ vertices) × (blanks.vertices.parts ≡ vertex_parts) × (blanks.vertices.parts ≡ whole.vertices)
   pub of_entries : (blanks.entries.name ≡ entries) × (blanks.entries.parts ≡ entry_parts) × (blanks.entries.parts ≡ whole.entries)

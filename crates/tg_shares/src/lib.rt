@@ -26,7 +26,8 @@
 //! a call leaves the purses of others alone. By its type it is handed its own purse alone.
 //!
 //! **Who may do what.** A client reaches the store by its own calls. The store's lock, its locked value and the till
-//! are private to this crate. The one [`Keeper`](tg_shared::Keeper) takes the journal and ends workers, free of charge.
+//! are private to this crate. Only the [`Keeper`](tg_shared::Keeper) takes the journal and ends workers, free of
+//! charge.
 //!
 //! A purse is a share of two ledgers ([`std::sync::ledger`]). It has a part of the first for each vertex, and a part of
 //! the second for each entry. The [`Till`] has the parts for vertices and entries that were made. So all purses

@@ -47,7 +47,7 @@ IsOther asked begin (OtherWorkers n has) = (asked.workers ≡ Some n) × (has �
 IsOther asked begin (OtherVertices n has) = IsAsked asked.workers (workers_of begin) × (asked.max_vertices ≡ Some n) × (has ≡ limit_of begin) × (n ≢ has)
 IsOther asked begin (Store fault) = ⊥
 
--- A run after this history goes on with the store after the history, a new box of each kind of the stock, and the helpers that were
+-- A run after this history has the store after the history. It has a new box of each kind of the stock, and the helpers that were
 -- asked for. Its counts leave out the entries before the history.
 pub record IsRunAfter (history : History) (start : ResumedStart) {P : Type 0} (from : RunOn P) : Type 0 where
   pub store : IsRevived history.start history.entries.items start.limits from.store

@@ -12,7 +12,7 @@ use Rattle.tgstore.specs.declared.start.StartFault.TheVariants.{OutOfMemory}
 use Rattle.tgstore.specs.declared.stop.Stop.{Stop}
 use Rattle.tgstore.specs.declared.stop.Stop.TheVariants as stop
 
--- the start of the script, which has these settings, a cell with 0 for each worker, and a new box of each kind of the stock
+-- The start of the script has these settings. Each worker has a cell with 0, and the stock has a new box of each of its kinds.
 abbrev pub script_start_of : Start → ScriptStart
 script_start_of start = start_with start.settings (replicate start.settings.workers (value_of_item Cell)) (map value_of_item start.stock.items)
 
