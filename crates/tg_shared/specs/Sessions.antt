@@ -268,7 +268,7 @@ LeavesAtSeen start seen kind number = AtSeen start seen (λ old. AtSeen start se
 abbrev pub KeepsReceipts : SessionState → SessionState → Type 0
 KeepsReceipts old new = (new.worker ≡ old.worker) × (new.receipts ≡ old.receipts) × (new.handed ≡ old.handed) × (new.parts ≡ old.parts) × (new.retired ≡ old.retired) × (new.made ≡ old.made) × (new.seen ≡ old.seen)
 
--- Room for so many more receipts was made, where memory was not refused. The receipts are the same.
+-- Room for so many more receipts was made, if memory was not refused. The receipts are the same.
 pub record MakesRoom {T E : Type 0} (more : ℕ) (old new : SessionState) (result : Result T E) : Type 0 where
   pub receipts : KeepsReceipts old new
   pub spare : OnOk result (more ≤ new.spare)
@@ -377,7 +377,7 @@ pub record Records (old new : StoreState) (before after : SessionState) (deed : 
   pub entry : Enters old new before.worker deed reply
   pub receipt : AddsReceipt before after (length old.entries) deed reply
 
--- the store is as it was but for room, and the receipts are the same
+-- only the room of the store may have changed, and the receipts are the same
 abbrev pub RecordsNothing : StoreState → StoreState → SessionState → SessionState → Type 0
 RecordsNothing old new before after = IsUnchanged old new × KeepsReceipts before after
 
@@ -395,7 +395,7 @@ pub record MayRefuseAtSeen {P T : Type 0} (start : SharedStart) (deed : Deed) (v
 abbrev pub IsFresh : SessionState → Type 0
 IsFresh s = (s.receipts ≡ []) × (s.handed ≡ 0) × (s.parts ≡ 1) × (s.retired ≡ false) × (s.made ≡ [])
 
--- one session for each of the subjects, none of which ever had a receipt
+-- there is one session for each of the subjects, and no session ever had a receipt
 abbrev pub AreFresh : List ℕ → List SessionState → Type 0
 AreFresh subjects sessions = (map (λ s. s.worker) sessions ≡ subjects) × All IsFresh sessions
 

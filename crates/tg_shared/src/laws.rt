@@ -58,8 +58,8 @@ pub fn kept_parts_share_out()
         AreKeptInParts entries first sessions → length entries ≡ first + count_of sessions → AreSharedOut (drop first entries) sessions }
 {}
 
-/// Of a store that was shared whole, no entry made since is handed out while it is shared. So where `close` says from
-/// which place on it has looked, that is the place where the store was shared.
+/// If a store was shared whole, no entry made since is handed out while it is shared. So the place from which on
+/// `close` has looked is the place at which the store was shared.
 pub fn a_whole_journal_is_held()
     ensures { (start : SharedStart) (s : StoreState) → StaysWhole start s → held_from start s ≡ length start.entries }
 {}
@@ -99,8 +99,8 @@ pub fn a_session_without_a_retire_is_a_subject()
         IsSpawnedIn start all s.worker → HasNotLeft start all s → ¬ IsNobodyAtSeen start all s.worker }
 {}
 
-/// Where a retire is among the entries that a session made, its worker is a subject of no store whose entries the
-/// session sees.
+/// If a retire is among the entries that a session made, its worker is a subject of no store whose entries the session
+/// sees.
 pub fn a_session_with_a_retire_has_no_subject()
     ensures { (start : SharedStart) (all : List Signed) (s : SessionState) →
         IsOnItsOwn start all s → retired_behind false s.made ≡ true → ¬ IsSubjectAtSeen start all s.worker }

@@ -343,9 +343,9 @@ impl<L: Round, P: Payload> Locked<L, P> {
         journal
     }
 
-    /// Gives up the entries before a place, by one call of the store, where it was shared so as to be handed out in
-    /// parts. They count as handed out to the keeper, and the journal keeps their room. All entries are given up if the
-    /// place is after the last entry, and none if they were all handed out before. No session is touched.
+    /// Gives up the entries before a place, by one call of the store, if it was shared so as to be handed out in parts.
+    /// They count as handed out to the keeper, and the journal keeps their room. All entries are given up if the place
+    /// is after the last entry, and none if they were all handed out before. No session is touched.
     pub fn forget(&mut self, keeper: &mut Keeper<L>, upto: u64)
         requires in_parts { L.start.in_parts ≡ true }
         ensures joined { keeper.old.next ≡ self.old.store.handed }

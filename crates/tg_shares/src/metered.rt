@@ -121,8 +121,8 @@ impl<L: Round, V: Ledger, E: Ledger, P: Payload> Metered<L, V, E, P> {
         self.locked.tell(keeper);
     }
 
-    /// Takes a command of the session's subject, by one call of [`Locked::apply`]. An entry is paid for, and nothing
-    /// where it is refused.
+    /// Takes a command of the session's subject, by one call of [`Locked::apply`]. An entry is paid for, or nothing if
+    /// the command is refused.
     pub(crate) fn apply(
         &mut self,
         client: &mut Client<L, V, E>,
@@ -145,7 +145,7 @@ impl<L: Round, V: Ledger, E: Ledger, P: Payload> Metered<L, V, E, P> {
     }
 
     /// Makes a vertex of the session's subject, by one call of [`Locked::create`]. It is never answered that no more
-    /// vertices may be made, whatever was done before, by whomever. A vertex is paid for, and nothing where it is
+    /// vertices may be made, whatever was done before, by whomever. A vertex is paid for, or nothing if the call is
     /// refused.
     pub(crate) fn create(
         &mut self,

@@ -91,7 +91,7 @@ impl<V: Ledger, E: Ledger> Purse<V, E> {
         self.entries
     }
 
-    /// Hands a part on, as a purse of its own. Refused, with the purse as it was, exactly where it has fewer vertices,
+    /// Hands a part on, as a purse of its own. Refused, with the purse as it was, exactly if it has fewer vertices,
     /// which are looked at first, or fewer entries. Takes no memory.
     pub fn split_off(&mut self, part: Portion) -> Result<Purse<V, E>, Lack>
         ensures part { IfOk result (λ fresh. fresh ≡ part) }
@@ -157,7 +157,7 @@ impl<V: Ledger, E: Ledger> Purse<V, E> {
         Ok(())
     }
 
-    /// Whether its holder, a worker, may make an entry. Refused exactly where the purse has none.
+    /// Whether its holder, a worker, may make an entry. Refused exactly if the purse has no entry.
     pub fn may_enter(&self, worker: u64) -> Result<(), ShareFault>
         ensures may { OnOk result (0 < self.now.entries) }
         ensures lacks { (result ≡ Err (record { worker = worker; lacks = Lack.Entries })) ↔ (self.now.entries ≡ 0) }

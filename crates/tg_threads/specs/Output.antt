@@ -146,7 +146,7 @@ Tells arena served line.Minor box e a = TellsCollection arena kind.Nursery e a
 
 -- ---- what is written for all of them
 
--- these are the entries that the lines made, in script order, and this is the text, where the lines of these workers are run
+-- these are the entries that the lines made, in script order, and this is the text, if the lines of these workers are run
 abbrev pub AreTold : Arena → (ℕ → Bool) → List Boxed → List Entry → List ℕ → Type 0
 AreTold arena served [] made text = (made ≡ []) × (text ≡ [])
 AreTold arena served (b ∷ bs) made text =
@@ -188,7 +188,7 @@ pub record IsRaceOutput (race_text : RaceText) (start : Start) (lines : List Lin
   pub each : HasEach entries made
   pub text_is : text ≡ race_text (plan_of start lines) entries replies
 
--- ---- where there is one worker
+-- ---- if there is one worker
 
 -- a command line of worker 0
 abbrev pub IsOfFirst : Line → Type 0

@@ -131,7 +131,7 @@ pub record RacesFrom {S K T : Type 0} (left : S → Option (List ℕ)) (asks fai
 
 -- ---- parts of it
 
--- The sink was finished at the end of a race, and has failed where that is reported.
+-- The sink was finished at the end of a race, and has failed if that is reported.
 pub record FinishesRace {K T : Type 0} (failures : K → ℕ) (is_finished : K → Bool) (sink sink' : K) (result : Result T RaceFault) : Type 0 where
   pub write_failed : failures sink + race_write_failures result ≤ failures sink'
   pub unfailed : OnOk result (failures sink' ≡ failures sink)
@@ -144,7 +144,7 @@ pub record CountsRace {S K T : Type 0} (asks read_fails : S → ℕ) (write_fail
   pub read_failed : read_fails source' ≡ read_fails source + race_read_failures result
   pub write_failed : write_fails sink' ≡ write_fails sink + race_write_failures result
 
--- the same, where nothing is written
+-- a part of a race that writes nothing, with its counts
 pub record OpensSilently {S K T : Type 0} (asks read_fails : S → ℕ) (taken : K → Option (List ℕ)) (write_fails : K → ℕ)
     (source source' : S) (sink sink' : K) (result : Result T RaceFault) : Type 0 where
   pub keeps : KeepsBytes (taken sink) (taken sink')

@@ -8,7 +8,7 @@ use tg_store::StoreAuditFault;
 use tg_text::{ScriptFault, WriteFailed};
 use thiserror::Error;
 
-/// Why a race ended without its whole output. Nothing was written, but where writing failed.
+/// Why a race ended without its whole output. Nothing was written, unless writing failed.
 #[derive(Clone, Copy, PartialEq, Eq, Debug, Error)]
 pub enum RaceFault {
     /// A fault in the script, or its store couldn't be opened. No line was run.

@@ -10,7 +10,7 @@ use tg_text::{Line, Refusal};
 pub struct Task<P: Payload> {
     /// A line of the session's worker that is no edge line. Or a collection, if the session is worker 0's.
     pub line: Line,
-    /// For the vertex, where the line makes one and there is a payload for it.
+    /// The payload for the vertex, if the line makes a vertex and there is a payload for it.
     pub draft: Option<Draft<P>>,
 }
 

@@ -1,4 +1,4 @@
-//! Where a worker's thread may be held up.
+//! The place at which a worker's thread may be held up.
 
 /// A gate that each worker's thread passes before each of its lines. A turnstile that lets nobody pass before another
 /// worker has come shows that workers have threads of their own.

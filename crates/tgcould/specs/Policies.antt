@@ -14,7 +14,7 @@ use Rattle.tgcould.specs.Told.{NeverComes}
 
 -- ---- the command line
 
--- the values of an option, or none where it isn't there
+-- the values of an option, or none if it isn't there
 abbrev pub values_of : Option MatchedArg → List (List ℕ)
 values_of None = []
 values_of (Some matched) = raw_values matched

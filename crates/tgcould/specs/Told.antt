@@ -23,7 +23,7 @@ abbrev pub named_in : Shown → VertexWord → ℕ
 named_in p (Named name) = name
 named_in p New = p.made
 
--- it is an answer of each graph of which this is the picture
+-- this is an answer for each graph that has this picture
 abbrev pub AnswersShown : Shown → List ℕ → ℕ → Right → ℕ → Answer → Type 0
 AnswersShown p silent x right y answer = (g : ProtectionGraph) → IsPictureOf p g → IsAnswer silent g x right y answer
 
@@ -32,11 +32,11 @@ abbrev pub TellsHold : Shown → List ℕ → ℕ → Right → ℕ → PlainTex
 TellsHold p silent x right y old new =
     new.is_short ≡ false → (answer : Answer) × AnswersShown p silent x right y answer × Appends old (answer_text answer) new
 
--- on each graph of which this is the picture x never holds the right over y
+-- x never holds the right over y on any graph that has this picture
 abbrev pub IsNever : Shown → List ℕ → ℕ → Right → ℕ → Type 0
 IsNever p silent x right y = (g : ProtectionGraph) → IsPictureOf p g → NeverHolds silent g x right y
 
--- whoever it answers of whatever right, this never comes about
+-- the answer says that a right never comes about, whatever the vertices and the right of the question are
 abbrev pub SaysNever : Answer → Type 0
 SaysNever answer =
     (p : Shown) (silent : List ℕ) (x : ℕ) (right : Right) (y : ℕ) → AnswersShown p silent x right y answer → IsNever p silent x right y

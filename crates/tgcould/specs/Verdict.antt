@@ -38,7 +38,7 @@ pub record IsKeptOn (g : ProtectionGraph) (silent : List ℕ) (text : List ℕ) 
   pub is : IsQuestion text question
   pub never : NeverComesOn g silent question
 
--- all policies are kept on each graph of which this is the picture, with the edges that are supposed and against all but the silent
+-- all policies are kept on each graph that has this picture, with the supposed edges, against all subjects that aren't silent
 abbrev pub AreKept : ArgMatches → Supposed → Shown → Type 0
 AreKept matches supposed p =
     (g : ProtectionGraph) → IsPictureOf p g → All (IsKeptOn (with_edges g supposed.edges.items) supposed.silent.items) (texts_of matches NEVER.now)

@@ -87,7 +87,7 @@ pub const COMMAND_LINE: CommandLine = CommandLine {
 pub struct DotOptions<'a> {
     /// The options of the plain graph on which the script runs.
     pub plain: PlainOptions<'a>,
-    /// The lines whose steps are drawn, or `None` where only the last graph is.
+    /// The lines whose steps are drawn, or `None` if only the last graph is.
     pub steps: Option<LineRange>,
 }
 
@@ -106,7 +106,7 @@ impl LineRange {
         self.from <= line && line <= self.to
     }
 
-    /// A fault where there is no such line, whatever the script.
+    /// A fault if there is no such line, whatever the script.
     pub fn check(self) -> Result<(), PlainFault> {
         let LineRange { from, to } = self;
         if from > to {

@@ -31,7 +31,7 @@ pub struct ScriptRun {
 }
 
 impl ScriptRun {
-    /// A run of which nothing is known but the graph.
+    /// A run with a graph, before its first line.
     pub fn new(alloc: Global, plain: PlainRun) -> ScriptRun {
         ScriptRun {
             alloc,
@@ -185,7 +185,7 @@ impl ScriptRun {
     }
 }
 
-/// The ends of the edge that a command adds to or takes from, where it is served.
+/// The ends of the edge that a command adds to or takes from, if it is served.
 pub fn changed_by(worker: u64, command: &Command) -> Option<(u64, u64)> {
     match *command {
         Command::Take { target, .. } | Command::Remove { target, .. } => Some((worker, target)),

@@ -43,7 +43,7 @@ pub struct EdgeView {
 }
 
 impl Shot {
-    /// A graph of which nothing is shown yet.
+    /// A graph without anything to show yet.
     pub fn new(alloc: Global, plain: PlainRun) -> Shot {
         Shot {
             number: 0,
@@ -104,7 +104,7 @@ impl Shot {
         }
     }
 
-    /// Writes the third line of a vertex, or nothing where there is nothing to note.
+    /// Writes the third line of a vertex, or nothing if there is nothing to note.
     pub fn write_note(&self, text: &mut PlainText, name: u64) {
         let mut space = "";
         for (holds, note) in self.notes(name) {

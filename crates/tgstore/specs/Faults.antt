@@ -20,13 +20,13 @@ stop_read_failures (Err (stop.Script fault)) = read_failures {T = Unit {0}} (Err
 stop_read_failures (Err (stop.Race fault)) = race_read_failures {T = Unit {0}} (Err fault)
 stop_read_failures r = 0
 
--- how many failures of the sink it is, where finishing it is left out
+-- how many failures of the sink it is, without the finish of the sink
 abbrev pub stop_write_failures : {T : Type 0} → Result T Stop → ℕ
 stop_write_failures (Err (stop.Script fault)) = write_failures {T = Unit {0}} (Err fault)
 stop_write_failures (Err (stop.Race fault)) = race_write_failures {T = Unit {0}} (Err fault)
 stop_write_failures r = 0
 
--- 2 where the words are at fault, else 1
+-- 2 if the words are at fault, else 1
 abbrev pub status_of_stop : Stop → ℕ
 status_of_stop stop.BadWords = 2
 status_of_stop stop.HelpUnwritten = 1
