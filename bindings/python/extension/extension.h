@@ -99,7 +99,7 @@ bool numbers_of(struct state *state, PyObject *const *words, Py_ssize_t count, u
 /* Items of one size that lie in a bytes object one after the other. They stay for as long as the object does. */
 bool items_of(PyObject *word, size_t size, const void **items, size_t *count);
 
-/* What an opening asks for: values, edges and limits. */
+/* The arguments of an opening, which are values, edges and limits. */
 struct opening {
     const tg_value *workers;
     const tg_edge *edges;

@@ -31,7 +31,7 @@ def edges_in(edges: Iterable[Pair]) -> List[Pair]:
 
 
 def stored_in(value: Value) -> Stored:
-    """What a vertex stores of which this is the first value."""
+    """The value of a vertex of which this is the first value."""
     if isinstance(value, Log):
         return Stored("log", (), number_in(32, value.most))
     for law, word in LAWS.items():

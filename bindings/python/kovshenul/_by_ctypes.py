@@ -141,7 +141,7 @@ class _Room:
     """The arguments of a call, and the memory to which the library writes its answer."""
 
     def __init__(self) -> None:
-        # What is put into `asked` must be a number in its range. A call takes it by the cells, which are the same memory. If ctypes
+        # A value that is put into `asked` must be a number in its range. A call takes it by the cells, which are the same memory. If ctypes
         # makes an argument of a plain number, the call takes three times as long.
         self.asked = array("Q", [0] * MOST_ASKED)
         cells = (Number.from_buffer(self.asked, 8 * at) for at in range(MOST_ASKED))

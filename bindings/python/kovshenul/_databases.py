@@ -14,7 +14,7 @@ from typing import Any, ClassVar, Dict, Iterator, List, NamedTuple, Optional, Se
 from ._library import short_of
 from ._refusals import Error
 
-# What a row holds when it is read: each column as text, or None.
+# The columns of a row when it is read, each as text, or None.
 Row = Tuple[Optional[str], ...]
 
 # The greatest integer that both databases keep in 64 bits.
@@ -149,7 +149,7 @@ class Sqlite(Database):
     # A COMMIT or a ROLLBACK of the host ends the savepoint with this name.
     SAVEPOINT = "kovshenul_of_journal"
     SYNCHRONOUS = ("OFF", "NORMAL", "FULL", "EXTRA")
-    # What `synchronous` has to be, by the journal mode of the file. In the mode DELETE only EXTRA syncs the folder.
+    # The value that `synchronous` has to have, by the journal mode of the file. In the mode DELETE only EXTRA syncs the folder.
     ENOUGH: Dict[str, Tuple[str, ...]] = {
         "wal": ("FULL", "EXTRA"),
         "delete": ("EXTRA",),

@@ -56,7 +56,7 @@ class Held:
 
 
 def place_of(kind: str, it: object) -> Place:
-    """The place of a store, or of another kind of what is held."""
+    """The place of a store, or of another value that the library holds."""
     if not isinstance(it, Held) or it._named != f"a {kind}":
         raise TypeError(f"a {kind} is wanted, and not {short_of(it)}")
     return it._place

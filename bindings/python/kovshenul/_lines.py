@@ -34,13 +34,13 @@ def _rights(word: str) -> Rights:
 
 
 def _value(word: str) -> Value:
-    """What a vertex stores at first, as `s40`."""
+    """The value that a vertex stores at first, as `s40`."""
     return LAW_OF[word[:1]](_number(word[1:]))
 
 
 Reader = Callable[[str], object]
 
-# The deeds: the type of each, and its words in their order, by the names of their columns and with what reads them.
+# The type of each deed. Its words come in their order, by the names of their columns, each with the function that reads it.
 DEEDS: Dict[str, Tuple[Callable[..., Deed], Dict[str, Reader]]] = {
     "take": (journal.Take, {"via": _number, "target": _number, "rights": _rights}),
     "grant": (journal.Grant, {"via": _number, "target": _number, "rights": _rights}),

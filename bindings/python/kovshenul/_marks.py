@@ -1,4 +1,5 @@
-"""What the host says of its vertices: names for people, and whom it trusts. It is kept beside the store, and changes no reply."""
+"""Marks of the host on its vertices, which are names for people, and whom it trusts. They are kept beside the store, and change no
+reply."""
 from __future__ import annotations
 
 from typing import Dict, Iterable, List, Mapping, Optional, Set, Union

@@ -24,7 +24,7 @@ Numbers = Tuple[int, int, int, int, int]
 
 
 def told_by(denial: Numbers) -> Tuple[str, str, Optional[Tuple[int, int]], Rights]:
-    """What the numbers of a denial say: the rule, the cause, and where rights are missing the edge and those."""
+    """The meaning of the numbers of a denial. It is the rule, the cause, and if rights are missing the edge and these rights."""
     rule, cause, source, target, rights = denial
     edge = (source, target) if cause == MISSING else None
     return RULES[rule], CAUSES[cause], edge, RIGHTS[rights]
@@ -37,7 +37,7 @@ def shown(vertex: int, names: Mapping[int, str]) -> str:
 
 
 class Error(Exception):
-    """What a store raises: Denied, or a Refused."""
+    """An exception of a store, which is Denied or a Refused."""
 
 
 class Denied(Error, PermissionError):
@@ -45,8 +45,8 @@ class Denied(Error, PermissionError):
 
     `rule` and `cause` are words of RULES and CAUSES. If the cause is `missing`, `rights` are the missing rights, on the edge from
     `edge[0]` to `edge[1]`. Otherwise there is no edge. The cause is `not log` if the target of an append stores no log.
-    `vertices` are those that the command named: the worker, for a take or a grant the one between, and the target. `names` has
-    the names of these vertices that the host gave by `set_name`, for the text of the denial.
+    `vertices` are the vertices that the command named. They are the worker and the target, and between them the vertex `via` of a
+    take or a grant. `names` has the names of these vertices that the host gave by `set_name`, for the text of the denial.
     """
 
     def __init__(
@@ -223,7 +223,7 @@ class NotAudited(Refused):
 BY_STATUS = {kind.status: kind for kind in Refused.__subclasses__()}
 
 
-# What may be asked about: one right, as a number.
+# A right that may be asked about, as a number.
 SINGLE = [int(right) for right in Rights]
 
 

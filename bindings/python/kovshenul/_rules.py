@@ -1,4 +1,4 @@
-"""The rules of the store, in plain Python: which commands are served, what they change, and what is answered.
+"""The rules of the store, in plain Python. They say which commands are served, what they change, and what is answered.
 
 This is the take-grant model (Lipton and Snyder 1977), with the store's own commands beside take, grant, create and remove.
 `kovshenul.plain` makes a store of it. The file imports no other file of the package, so it needs no library for C.
@@ -41,7 +41,7 @@ class Full(Exception):
 
 @dataclass(frozen=True)
 class Stored:
-    """What a vertex stores: a law (`cell`, `sum`, `max` or `log`), its state, and of a log the most numbers that it keeps."""
+    """The value of a vertex. It has a law (`cell`, `sum`, `max` or `log`), its state, and for a log the most numbers that it keeps."""
 
     law: str
     state: Tuple[int, ...]
@@ -65,7 +65,7 @@ class Stored:
 
 
 class Graph:
-    """A protection graph: who holds which rights over whom, and what each vertex stores.
+    """A protection graph. It says who holds which rights over whom, and which value each vertex stores.
 
     The vertices are the numbers below `made`, and at most `limit` may ever be made. The subjects issue commands.
     """

@@ -1,4 +1,4 @@
-"""A snapshot: what an auditor has come to, from which another one goes on. It is kept as its text.
+"""A snapshot of the graph at an auditor's place, from which another auditor goes on. It is kept as its text.
 
 The library reads each text, and its reader is proved. The parts of a snapshot are read here, from a text that the library has accepted.
 """

@@ -29,7 +29,7 @@ PREFIX = re.compile(r"[a-z_][a-z0-9_]{0,39}")
 
 
 class BadTables(Error):
-    """The tables aren't those of a store: they aren't there, another version of the package wrote them, or a store is there
+    """The tables aren't the tables of a store. They aren't there, another version of the package wrote them, or a store is there
     already. The text says which. Nothing was changed."""
 
 

@@ -148,8 +148,8 @@ class Journal:
         trusted: Iterable[int] = (),
         last: Optional[Last] = None,
     ) -> Store:
-        """Opens a store that has all entries of the table, and closes the store before. Its limits are those of `open`, or others
-        with the same `max_vertices`. `trusted` are workers after the last entry.
+        """Opens a store that has all entries of the table, and closes the store before. Its limits are the limits of `open`, or
+        others with the same `max_vertices`. `trusted` are workers after the last entry.
 
         It does the deed of each entry again, and compares the reply. It raises BadEntry if an entry isn't legal or if a column
         isn't what its line says, and BadPlace if a row is missing. The exception's `at` is the place. It raises BadTables if

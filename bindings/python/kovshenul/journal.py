@@ -22,7 +22,7 @@ LAWS = (Cell, Sum, Max, Log)
 # Deeds that are no commands of a batch.
 NO_COMMAND = "a command is a deed of kovshenul.journal, but no Create and no Spawn"
 
-# What is no entry.
+# Texts that are no entry.
 NO_ENTRY = "an entry is a journal.Entry of a deed and a reply of kovshenul.journal"
 
 
@@ -183,7 +183,7 @@ REPLIES = {0: Done, 1: Denied, 2: Name, 3: Values, 4: Edges, 16: VerticesFull, 1
 
 
 class Record(NamedTuple):
-    """An entry in numbers, without those of its value and its edges. A number that a deed or a reply doesn't have is 0."""
+    """An entry in numbers, without the numbers of its value and its edges. A number that a deed or a reply doesn't have is 0."""
 
     worker: int
     deed: int

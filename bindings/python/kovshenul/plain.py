@@ -1,4 +1,4 @@
-"""The model of the store in plain Python, to test a host against: `plain.Store(..)` replaces `kovshenul.Store(..)`.
+"""The model of the store in plain Python, to test a host against. `plain.Store(..)` replaces `kovshenul.Store(..)`.
 
     def use(store):
         ...                                     # the calls that the host makes
@@ -13,13 +13,13 @@ It has the same calls, with the same arguments and answers. It raises the same e
 It is plain Python. The library for C, which the package loads, is asked only for texts. They are the texts of refusals, of entries, of
 an opening and of a snapshot. `_rules.py` runs without the package.
 
-What it leaves out:
+It leaves out:
 
 - Collections. The model keeps each vertex for good. `collect` of either kind changes nothing, and returns how many vertices a full
   collection of the store leaves. `names` returns their names.
 - Blocks and memory. Of `Limits` only `max_vertices` counts. No call raises HeapFull or OutOfMemory.
-- The room of a census: `vertices` and `payloads` count all that were ever made, and `blocks` is 0.
-- Files, the Auditor, and the lock: one thread at a time may call.
+- The room of a census. `vertices` and `payloads` count all that were ever made, and `blocks` is 0.
+- Files, the Auditor, and the lock. One thread at a time may call.
 - The store's turns. An answer of `could` has turns of the model's own, often fewer. Therefore one side may say WantsNames or Open where
   the other one says Could. A question takes the time of a closure, which is about a second for 100 vertices.
 
