@@ -44,7 +44,7 @@ STEP = 10_001
 
 
 def rows() -> Shape:
-    """How many workers and objects there are, and what makes them."""
+    """How many workers and objects there are, and the lines that make them."""
     return WORKERS, WORKERS * OBJECTS, [f"{worker} create rw" for worker in range(WORKERS) for _ in range(OBJECTS)]
 
 

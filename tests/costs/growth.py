@@ -83,7 +83,7 @@ def marks(row: int) -> Counted:
 
 
 def noted(row: int) -> Counted:
-    """Every third edge is given up and another one made in its place, and all of these come to Old."""
+    """Every third edge is given up and another edge made in its place, and all of these edges come to Old."""
     again = range(1, row + 1, 3)
     before = ["0 create r"] * row + ["full"] + [f"0 remove {name} r" for name in again] + ["0 create r"] * len(again)
     before += ["minor", "minor", "0 create r", "minor"]
@@ -122,7 +122,7 @@ def removes(row: int) -> Counted:
 
 
 def holes(row: int) -> Counted:
-    """The name that is given up is the one that was made last, whose edge is last."""
+    """The name that is given up is the name that was made last, whose edge is last."""
     names = range(row, row + TIMES)
     rounds = [line for name in names for line in (f"0 remove {name} r", "0 create r")]
     return Counted(["--workers", "1", "--stock", f"c{row + TIMES}"], ["0 create r"] * row, rounds)
@@ -171,7 +171,7 @@ def hints(worker: int) -> Counted:
 
 @dataclass
 class Check:
-    """What is counted, what it is counted beside, and how often the first count the second may be."""
+    """The count, the amounts beside which it is made, and how many times the first count the second may be."""
 
     script: Callable[[int], Counted]
     what: str

@@ -22,7 +22,7 @@ void *__libc_realloc(void *at, size_t size);
 void *__libc_memalign(size_t alignment, size_t size);
 void __libc_free(void *at);
 
-/* What is in front of each piece. It is as long as malloc's own alignment. */
+/* The header in front of each piece. It is as long as malloc's own alignment. */
 struct header {
     uint64_t size;
     uint64_t mark; /* MARK, and how far in front of the piece its room begins */

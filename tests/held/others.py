@@ -28,7 +28,7 @@ OPTIONS = ["--workers", "2", "--vertices", "50", "--stock", "c9"]
 
 @dataclass
 class Runs:
-    """A program, its words and what it reads, of which each request is refused in turn."""
+    """A program, its words and its input, of which each request is refused in turn."""
     program: str
     words: list
     text: bytes
@@ -63,7 +63,7 @@ RUNS = [
 
 
 def run(runs, path, environment, seconds):
-    """The status of a run, and what it wrote."""
+    """The status of a run, and its output."""
     ran = subprocess.run([path, *runs.words], input=runs.text, env=environment, capture_output=True, timeout=seconds, check=False)
     return ran.returncode, ran.stdout, ran.stderr
 
@@ -79,7 +79,7 @@ def is_right(runs, whole, ran):
 
 
 def check(counter, folder, seconds):
-    """Refuses each request of each of the runs, and answers how many runs there were, and what is wrong with the wrong ones."""
+    """Refuses each request of each of the runs, and returns how many runs there were, and the faults of the wrong ones."""
     count, wrong = 0, []
     for runs in RUNS:
         path = os.path.join(folder, runs.program, "out", runs.program)

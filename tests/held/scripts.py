@@ -207,17 +207,17 @@ def a_long_command_line():
 
 
 def a_line_too_long():
-    """What is after the line that ends the run isn't run, and its boxes are given back."""
+    """The lines after the line that ends the run aren't run, and their boxes are given back."""
     return Script("--workers 1 --stock l100", creates(40) + ["full", "0 list " + "x" * 300, *creates(40)], status=1)
 
 
 def a_read_fails_once():
-    """What was read before it is answered, and what is after it isn't read."""
+    """The lines that were read before it are answered, and the lines after it aren't read."""
     return Script("--workers 1", ["0 list", "0 read 0"] * 20_000, status=1, failed_read=3)
 
 
 def a_write_fails_once():
-    """What was put before it is written as the run ends, and nothing is run after it."""
+    """The output before it is written as the run ends, and nothing is run after it."""
     return Script("--workers 1", ["0 list", "0 read 0"] * 20_000, status=1, failed_write=3)
 
 

@@ -90,7 +90,7 @@ def kill_writers(name, made, count, rng):
 
 
 def said_of(checker):
-    """What a checker has come to."""
+    """The state of a checker."""
     return f"{checker.place} entries, {checker.acknowledged} acknowledged: none is wrong"
 
 
@@ -219,7 +219,7 @@ def wait_for_standby(server):
 # ---- questions
 
 def ask(store, rng):
-    """A question at random, and what the store answers."""
+    """A question at random, and the answer of the store."""
     worker, target, right = rng.randrange(WORKERS), rng.randrange(30), 1 << rng.randrange(8)
     kind = rng.choice(["label", "who_holds", "could"])
     words = {"label": (worker, target), "who_holds": (right, target), "could": (worker, right, target)}[kind]

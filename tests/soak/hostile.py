@@ -175,7 +175,7 @@ def appends_to_what_is_no_log():
 
 
 def inspections_of_a_long_row():
-    """What is inspected has a place in a long row, and no edges."""
+    """The inspected vertex has a place in a long row, and no edges."""
     size = 45_000
     return Case("--workers 1 --stock c100000", creates(size, "l"), (f"0 inspect {1 + i * 7919 % size}" for i in itertools.count()))
 

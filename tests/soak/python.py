@@ -157,7 +157,7 @@ def long_rows(store):
 
 
 def counts():
-    """What there is now."""
+    """The blocks, objects, references and bytes that there are now."""
     gc.collect()
     shared = [kovshenul.Target, journal.Record, kovshenul.Denied, kovshenul.NoSuchWorker, _values.RIGHTS, *_values.RIGHTS]
     return {
@@ -169,7 +169,7 @@ def counts():
 
 
 def soak(calls):
-    """Makes so many calls. Returns what there was after the first tenth, and what at the end."""
+    """Makes so many calls. Returns the counts after the first tenth, and the counts at the end."""
     before, done = None, 0
     while done < calls:
         with Store(*OPENING) as store, Auditor(*OPENING) as auditor, store.view() as view:
@@ -208,7 +208,7 @@ def must_pass_valgrind(calls):
 
 
 def outcome_of(call):
-    """The class of what the call raises, or None."""
+    """The class of the exception that the call raises, or None."""
     try:
         call()
     except Exception as error:
@@ -228,8 +228,8 @@ def refused_at(api, call, at):
 def must_bear_refusals():
     """Whether each call with each of its first requests refused raises MemoryError or does what it does, and leaves a store that works.
 
-    A call that raises may end by SystemError too, because the interpreter raises it if it has no memory for a traceback. ctypes makes
-    an ArgumentError of a MemoryError, and reads snapshots over the extension module too."""
+    A call that raises may end by SystemError too, because the interpreter raises it if it has no memory for a traceback. With ctypes it
+    makes an ArgumentError of a MemoryError, and reads snapshots over the extension module too."""
     try:
         import _testcapi
     except ImportError:

@@ -36,7 +36,7 @@ READ_FAILED, WRITE_FAILED = b"tgstore: read failed\n", b"tgstore: write failed\n
 
 
 class Script:
-    """Lines of one worker, each of which has a reply, and what the program answers."""
+    """Lines of one worker, each of which has a reply, and the output of the program."""
 
     def __init__(self, program, room, name, lines, stock):
         self.text = "".join(line + "\n" for line in lines).encode()
@@ -60,7 +60,7 @@ class Script:
             return done.returncode, sink.read(), done.stderr
 
     def replies(self, way, taken):
-        """What is to be written once so many bytes were read and no more can be."""
+        """The output that is due once so many bytes were read and no more can be."""
         if "--race" in way:
             return b""
         count = self.text[:taken].count(b"\n")
@@ -79,7 +79,7 @@ def tell(what, runs):
 # ---- calls that fail, by strace
 
 def traced(script, way, call, what):
-    """A run in which strace does this to its calls on the script or on the output, and what each of these calls came to."""
+    """A run in which strace does this to its calls on the script or on the output, and the outcome of each of these calls."""
     path = script.path if call == "read" else script.output
     log = script.output + ".log"
     before = ["strace", "-qq", "-o", log, "-s", "1", "-xx", "-P", path, "-e", f"trace={call}", "-e", f"inject={call}:{what}"]
@@ -116,7 +116,7 @@ def each_write(script, way, what, is_made_again):
 
 
 def one_byte_a_write(script, way):
-    """Each write says that it took one byte. The bytes are those of the log."""
+    """Each write says that it took one byte. The bytes are the bytes of the log."""
     end, calls = traced(script, way, "write", "retval=1")
     bytes_taken = bytes(int(shown[2:], 16) for shown, _ in calls)
     want(end == (0, b"", b"") and bytes_taken == script.wanted[" ".join(way)], way, end, bytes_taken)

@@ -89,7 +89,7 @@ def for_function(text: str, crate: str, path: str, to: str) -> str:
 
 
 def stated(text: str, unfolded: set[str]) -> str:
-    """The text of a file with a hole in the place of each proof but those of lemmas that are unfolded."""
+    """The text of a file with a hole in the place of each proof, except for proofs of lemmas that are unfolded."""
     kept: list[str] = []
     # the lemma whose proof is left out, while its clauses come
     lemma = None
@@ -110,5 +110,5 @@ def stated(text: str, unfolded: set[str]) -> str:
 
 
 def names_unfolded(text: str) -> set[str]:
-    """What the proofs in a text unfold."""
+    """The lemmas that the proofs in a text unfold."""
     return {name for line in re.findall(r"\bunfolding (.+)$", text, re.M) for name in line.split()}

@@ -50,8 +50,8 @@ class Copy:
 
 @lru_cache(maxsize=None)
 def copy_of(tree: Tree, mutant: Mutant) -> Copy | None:
-    """What a copy of the function needs, if the function is all that the mutant changes, and doesn't call itself. A
-    function of a trait's `impl` has no copy."""
+    """The parts that a copy of the function needs, if the function is all that the mutant changes, and doesn't call
+    itself. A function of a trait's `impl` has no copy."""
     files = {edit.file for edit in mutant.edits}
     there = functions_of(tree.source(mutant.crate))
     found = [one for one in there if is_end_of(mutant.function, one.path)]
@@ -154,8 +154,8 @@ def take_by_contract(folder: Path, crate: str, checked: list[str], copies: dict[
 
 
 def take_by_statement(proofs: Path) -> None:
-    """Puts a hole in the place of the proof of each lemma below a folder, but for those that a proof unfolds. What
-    answers a function's goals stays."""
+    """Puts a hole in the place of the proof of each lemma below a folder, except for lemmas that a proof unfolds. The
+    answers to a function's goals stay."""
     texts = {file: read_text(proofs / file) for file in files_below(proofs, ".antt")}
     unfolded = {name for text in texts.values() for name in names_unfolded(text)}
     for file, text in texts.items():

@@ -36,7 +36,7 @@ Broken = dict[tuple[str, str, str], list[tuple[str, str]]]
 
 
 def broken_by(mutants: Iterable[Mutant]) -> Broken:
-    """The mutants by the clauses that refuse them, and by the public ones that are proved from these."""
+    """The mutants by the clauses that refuse them, and by the public clauses that are proved from these clauses."""
     broken: Broken = {}
     for mutant in mutants:
         clauses = [(mutant.crate, mutant.function, clause, "") for clause in mutant.clauses]

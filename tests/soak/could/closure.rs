@@ -215,7 +215,7 @@ impl Graph {
     }
 }
 
-// The turns without the one at a place, with the names that are made then. None if another turn names what it made.
+// The turns without the turn at a place, with the names that are made then. None if another turn names what it made.
 fn without(apart: usize, made: usize, turns: &[String], at: usize) -> Option<Vec<String>> {
     let makes = |line: &String| line.contains(" create ") || line.contains(" spawn ");
     let gone = makes(&turns[at]).then(|| written(apart, made, made + turns[..at].iter().filter(|line| makes(line)).count()));

@@ -6,8 +6,8 @@ subjects, and edges that are only supposed. Up to 130 names are left, and some q
 plain program makes objects and a subject for each subject that acts. Then it does all takes and grants to the end, by the rules
 written out here. Whoever holds a right then could hold it, and nobody else ever does. Each witness is run after its script by these
 rules, and by tgstore, which has to list the right if x is an active subject. A witness may need more names only if names are short.
-The answers about the history that tgstore writes of the script have to be the answers about the script. The programs are those that
-'rt run' built."""
+The answers about the history that tgstore writes of the script have to be the answers about the script. The programs are the
+programs that 'rt run' built."""
 
 import argparse
 import random

@@ -94,7 +94,7 @@ KINDS = [a_reply, a_worker, a_name, two_swapped, one_lost, one_twice, the_end_cu
 
 
 def try_text(text, about):
-    """What tgaudit says of the text, which must be what the rules say."""
+    """The verdict of tgaudit on the text, which must be the verdict of the rules."""
     ran = subprocess.run([PROGRAM], input=text.encode(), capture_output=True, timeout=60)
     # A second line says what the line has to be.
     said, wanted = (ran.stdout + ran.stderr).decode().splitlines(keepends=True)[0], judge(text)

@@ -41,7 +41,7 @@ entries 9
 
 
 def audit(text, *words):
-    """The status of tgaudit on this text, and what it prints."""
+    """The status of tgaudit on this text, and its output."""
     ran = subprocess.run([PROGRAM, *words], input=text, capture_output=True, timeout=60, check=False)
     return ran.returncode, ran.stdout
 
@@ -93,7 +93,7 @@ def found(archive, at, altered):
 
 
 def try_altered(archive):
-    """Alters each byte of the archive, once. How many alterations were found by what."""
+    """Alters each byte of the archive, once. How many alterations each means has found."""
     places = [(at, place) for at, part in enumerate(archive) for place in range(len(part))]
 
     def one(where):

@@ -41,7 +41,7 @@ def lines_of(file: bytes) -> tuple[list[bytes], bool]:
 
 
 def judged(name: str, file: bytes) -> tuple[list[str], str]:
-    """What tgaudit has to print of a file on standard output, and how the first line on standard error begins."""
+    """The standard output that tgaudit has to print of a file, and how the first line on standard error begins."""
     whole, is_damaged = lines_of(file)
     texts, at = [it[:-10] for it in whole], sum(len(it) + 1 for it in whole)
     place = f"line {len(whole) + 1}, at byte {at}, "

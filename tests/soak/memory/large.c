@@ -184,7 +184,7 @@ static void collect_some(void) {
         ask(made / part % 16 == 15 ? FULL : MINOR);
 }
 
-/* Looks at each vertex, and reads those that their makers may read. */
+/* Looks at each vertex, and reads the vertices that their makers may read. */
 static void compare_all(void) {
     for (made = 0; made < vertices; made++) {
         compare(made);

@@ -18,8 +18,8 @@ def missing(rule, x, y, rights, held):
 
 
 class World:
-    """Who is a subject, who has which rights over whom, and what each vertex stores. It is never changed, because a line that changes
-    something makes another."""
+    """Who is a subject, who has which rights over whom, and which number each vertex stores. It is never changed, because a line that
+    changes something makes another."""
 
     def __init__(self, rows, states, made, subjects):
         self.rows, self.states, self.made, self.subjects = rows, states, made, subjects

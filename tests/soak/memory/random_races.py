@@ -106,7 +106,7 @@ WRONGS = [served_behind_its_retire, a_name_given_twice, a_number_that_was_not_wr
 
 
 class Races:
-    """What the races that were run had, and which wrong replies were found."""
+    """The lines of the races that were run, and which wrong replies were found."""
 
     def __init__(self, program, stay):
         self.program, self.stay = program, stay

@@ -24,7 +24,8 @@ from runs import old_cell_stays_remembered, refused_lines, rows, stop, subjects_
 # The numbers of refuse.c.
 TOLD = struct.Struct("7q")
 
-# Which requests are refused with the one of a number. Of a test it is one, since the call that was refused has to pass when it is made again.
+# Which requests are refused with the request of a number. Of a test it is one, since the call that was refused has to pass when it is made
+# again.
 ONE = {"one": (0,)}
 PLANS = {**ONE, "two": (0, 1), "three": (0, 2, 7), "all from one on": None}
 
@@ -70,7 +71,7 @@ def what_is_left(told, whole):
     # A thread that was let go says so at its very end, which the program's own end may cut off.
     if not told.refused and told.started != told.joined:
         return f"of {told.started} threads {told.joined} were joined"
-    # What the C library keeps for the next thread is held too.
+    # The memory that the C library keeps for the next thread is held too.
     if told.held != whole.held and not told.started and not whole.started:
         return f"{told.held} pieces of memory are held at the end, and {whole.held} where nothing is refused"
     return None
@@ -124,7 +125,7 @@ def built_tests(folder):
 
 
 def all_runs(tests, program):
-    """Each run that has its requests refused, with its name and what is refused together."""
+    """Each run that has its requests refused, with its name and the requests that are refused together."""
     listed = subprocess.run([tests, "--list"], stdout=subprocess.PIPE, check=True).stdout.decode() if tests else ""
     for test in re.findall(r"[\w:]*refused\w*", listed):
         yield test, of_test(tests, test), ONE

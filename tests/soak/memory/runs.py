@@ -15,10 +15,10 @@ PROGRAM = str(Tree().program("tgstore"))
 # How long a run may take, in seconds.
 MOST_SECONDS = 60
 
-# What may be asked of the program beside the words of a script. What it doesn't know is left out.
+# The options that the program may be given beside the words of a script. An option that it doesn't know is left out.
 WAYS = [[], ["--helpers", "2"], ["--helpers", "8"], ["--race"], ["--race", "--helpers", "2"]]
 
-# What a line may be answered that was not run.
+# The answers that a line may have which was not run.
 REFUSALS = {b"refused memory", b"refused threads"}
 
 # Of how many lines a race may be for which an order is looked for.

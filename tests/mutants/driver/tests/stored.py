@@ -41,7 +41,8 @@ LEMMAS = "double : (n : ℕ) → n + n ≡ 2 * n\ndouble n = by arith\n"
 
 
 def said(name: str) -> Report:
-    """What the stored output of a check says. Each of its lines came a processor second after the one before."""
+    """The report in the stored output of a check. Each of its lines came a processor second after the line
+    before."""
     lines = read_text(CONTROLS / f"said/{name}.txt").splitlines(keepends=True)
     return report_of((line, float(seconds)) for seconds, line in enumerate(lines, 1))
 
