@@ -1,19 +1,20 @@
-/* Kovshenul for C. It is a reference monitor, which keeps who may do what to which object in a store, by the take-grant rules.
+/* Kovshenul for C: a reference monitor, which keeps who may do what to which object in a store, by the take-grant rules.
 
-   A store has vertices, named 0, 1, 2 and so on. The first are the vertices of the opening, and then comes each that is made. One
-   vertex holds rights over another. Some vertices are active subjects, which this header calls workers. The workers of the
-   opening are active, and so is each worker that is spawned, until it retires. A worker asks for commands. A command is served
-   exactly if the take-grant rules allow it, unless the call is refused, for example if memory runs out. At most 64 workers are
-   active at a time. No name is used twice.
+   A store has vertices, named 0, 1, 2 and so on: first those of the opening, then each that is made. One vertex holds rights
+   over another. Some vertices are active subjects, which this header calls workers. These are the workers of the opening, and
+   each that is spawned, until it retires. A worker asks for commands. A command is served exactly where the take-grant rules
+   allow it, unless the call is refused, for example if memory runs out. At most 64 workers are active at a time. No name is used
+   twice.
 
-   Each call whose type is tg_status returns a status. The library's exports have contracts, which are proved (crates/tg_c/specs).
-   They say what TG_DONE and TG_DENIED mean, and when each refusal comes, with two exceptions. TG_OUT_OF_MEMORY may come from each
-   call that needs memory. TG_HEAP_FULL comes only if the limits may leave no room. Only for tg_open it is proved too that it
-   comes then. The files kovshenul.c, naming.c and showing.c come before the exports, and are tested and not proved. They have the
-   use of NULL, the texts, tg_snapshot_next, tg_version and tg_apply_all, which makes proved calls one after the other. Nothing
-   checks what this header asks of its caller.
+   Each call whose type is tg_status returns a status. The library's exports have contracts, which are proved
+   (crates/tg_c/specs). They say what TG_DONE and TG_DENIED mean, and when each refusal comes, with two exceptions.
+   TG_OUT_OF_MEMORY may come from each call that needs memory. TG_HEAP_FULL comes only where the limits may leave no room. Only of
+   tg_open is it proved too that it comes there.
+   The files kovshenul.c, naming.c and showing.c come before the exports, and are tested and not proved. They have the use of
+   NULL, tg_apply_all (which makes proved calls one after the other), the texts, tg_snapshot_next and tg_version. Nothing checks
+   what this header asks of its caller.
 
-   The duties of the caller in C:
+   What the caller in C owes:
    - Each pointer is to memory of the stated type. No other argument of the call overlaps it, and nobody else uses it while the
      call runs. NULL is allowed for an array of 0 items, for a text with no room, and for a denial that you don't need. It is
      allowed for the count of tg_auditor_feed, for the rights that tg_hand removes, and for nothing else.
@@ -107,7 +108,7 @@ enum {
     TG_VERTICES_FULL = 34,    /* tg_create, tg_spawn: max_vertices were made. The journal has an entry of it */
     TG_WORKERS_FULL = 35,     /* tg_spawn: 64 workers are active, and a vertex may be made. The journal has an entry of it */
 
-    TG_NO_SUCH_WORKER = 48,   /* exactly if the store is open, no worker has the name, and no argument is TG_BAD_.. */
+    TG_NO_SUCH_WORKER = 48,   /* exactly where the store is open, no worker has the name, and no argument is TG_BAD_.. */
 
     TG_BAD_RIGHTS = 64,       /* no right, or a bit that is no right. Several rights, if one is asked about. tg_rights_read: other
                                  letters */
@@ -145,7 +146,7 @@ typedef struct tg_value {
     uint64_t number;          /* of the other laws, the first number */
 } tg_value;
 
-/* Rights of worker `from` over worker `to`, at the opening. 24 bytes. */
+/* Rights of worker `from` over worker `to`, at the opening: 24 bytes. */
 typedef struct tg_edge {
     uint64_t from, to, rights;
 } tg_edge;
@@ -158,7 +159,7 @@ typedef struct tg_handing {
     uint64_t rights;
 } tg_handing;
 
-/* The limits of a store. 24 bytes. */
+/* The limits of a store: 24 bytes. */
 typedef struct tg_limits {
     uint64_t max_vertices;        /* vertices that may ever be made, with the workers of the opening. It is from their number to
                                      2^48 */
@@ -347,8 +348,8 @@ tg_status tg_retire(tg_store *store, uint64_t worker);
    still (tg_who_holds). */
 tg_status tg_leave(tg_store *store, uint64_t worker, uint64_t *count);
 
-/* Lists who holds one right over the vertex with this name. Holders are workers, objects, and workers that retired, if a worker
-   reaches them. The first `room` of their names go to names, by rising name. How many there are goes to *count. The answer is the
+/* Lists who holds one right over the vertex with this name: workers, objects, and workers that retired, of all that a worker
+   reaches. The first `room` of their names go to names, by rising name. How many there are goes to *count. The answer is the
    same before and after a collection. The journal gets no entry. Time and memory follow what the workers reach. TG_BAD_RIGHTS
    comes if it isn't one right. */
 tg_status tg_who_holds(tg_store *store, uint64_t right, uint64_t name, uint64_t *names, size_t room, uint64_t *count);

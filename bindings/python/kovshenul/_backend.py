@@ -8,9 +8,9 @@ a method for each call of the class of that name in the package, with the same n
 at its numbers, keeps the calls apart, and raises what wasn't served. A value that is no number is packed before (`_packed`). An answer
 is given in numbers, lists of numbers and tuples of them:
 
-- a command as its call does, with the edges of a row as Targets
-- an entry as a Record, the numbers that were stored or read, and the edges that were shown. An entry to go on from is packed so
-- `could` as the number of the answer, and how many names are lacking. For each turn come a Record and the numbers of its value
+- a command as its call does, with the edges of a row as Targets;
+- an entry as a Record, the numbers that were stored or read, and the edges that were shown; one to go on from is packed so;
+- `could` as the number of the answer, how many names are lacking, and for each turn a Record and the numbers of its value;
 - a census as its ten numbers, a label as its bits, and the `could` of a view as its number.
 
 All else is in the package once. It is the types, the exceptions and their texts, the pages of help, and the lock.

@@ -149,7 +149,7 @@ pub enum Error {
     WorkersFull,
     /// No active worker has the name. It was never spawned, it is an object, or it retired.
     NoSuchWorker,
-    /// No right, or several rights if one is asked about.
+    /// No right; several rights, where one is asked about.
     BadRights,
     /// A log of 0 or of more than 64 numbers.
     BadLaw,

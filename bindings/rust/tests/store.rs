@@ -1,4 +1,4 @@
-//! The behaviour that users of Rust expect of the crate beside its answers.
+//! What users of Rust expect of the crate beside its answers.
 use kovshenul::{Deed, Denial, Edge, Error, Hand, Kind, Limits, NoRights, Reply, Rights, Rule, Store, Target, Value};
 use std::collections::HashSet;
 use std::sync::mpsc;

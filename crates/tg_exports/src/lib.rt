@@ -4,8 +4,9 @@
 //! twice, because it builds the archive by a second proof. It proves the library `tg_c` once.
 //!
 //! The functions of `store`, `ending` and `handing` call a store in its place, and `resuming` has a store go on from
-//! entries. The functions of `could` ask what could ever come about, and the functions of `view` ask all questions at
-//! once. The functions of `auditor` check a journal, `saved` keeps a snapshot, and `text` writes texts of a history.
+//! entries. The functions of `could` ask what could ever come about, and those of `view` ask all questions at once. The
+//! functions of `auditor` check a journal, those of `saved` keep a snapshot, and those of `text` write texts of a
+//! history.
 //!
 //! Each contract has the contract of the store's own call. It also says exactly which status and numbers C receives
 //! (`specs/Calls.antt` and `specs/Statuses.antt` of `tg_c`). The header lists what a C program has to keep to, and no

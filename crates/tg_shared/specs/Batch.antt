@@ -34,13 +34,12 @@ abbrev pub StopsServing : List Command → LockedState → LockedState → Sessi
 StopsServing commands old new before after TooLong = ⊥
 StopsServing commands old new before after (Stopped done why) = StopsServingAt commands old new before after done why
 
--- ---- the knowledge of a session
+-- ---- what a session knows
 
--- There is exactly one receipt more for each of the commands, in their order. The places of the new entries follow one another.
--- They came next after these entries since the start, which the session sees. So these entries begin with the entries that it had
--- seen, and its own entries among them are exactly the entries that it had made. Each new entry was legal on the graph after the
--- entries before it, so its reply is the reply of the rules there. The session has then seen the entries before and the new
--- entries.
+-- Exactly one receipt more for each of the commands, in their order, of entries at places that follow one another. They came next after
+-- these entries since the start, which the session sees: they begin with those that it had seen, and its own among them are exactly
+-- those that it had made. Each new entry was legal on the graph after those before it: the reply is the rules' there. The session has
+-- then seen them and the new ones.
 pub record AnswersAll (start : SharedStart) (commands : List Command) (old new : SessionState) : Type 0 where
   pub before : List Signed
   pub sees : Sees before (knowledge old)
@@ -50,8 +49,8 @@ pub record AnswersAll (start : SharedStart) (commands : List Command) (old new :
   pub legal : AtSeen start before (λ s. IsLegal (graph_of_store s) entries)
   pub seen : new.seen ≡ before ++ sign_all (Session old.worker) entries
 
--- A batch stopped at the command at a place. The commands before it were answered. If there are none, no receipt was added. Unless
--- memory ran out, a store with exactly the entries that the session has then seen had the reason for the refusal.
+-- A batch stopped at the command at a place. The commands before it were answered; if there is none, no receipt was added. The refusal
+-- was due of a store with exactly the entries that the session has then seen, unless memory ran out.
 pub record StopsAtCall (start : SharedStart) (commands : List Command) (old new : SessionState) (done : ℕ) (why : ApplyFault) : Type 0 where
   pub place : done < length commands
   pub none : done ≡ 0 → HasLooked old new

@@ -1,4 +1,4 @@
--- The payments out of a purse, and the facts that hold in the lock of a store whose vertices are shared out.
+-- What is paid out of a purse, and what holds in the lock of a store whose vertices are shared out.
 use Rattle.std.specs.Prelude.{◌≡◌, ◌≢◌, ◌↔◌, ◌<◌, ◌≤◌, ◌+◌, ℕ, Result, Err, IfErr, IfOk, OnErr, OnOk, length}
 use Rattle.tg_model.specs.Graph.{ProtectionGraph, IsSubject, listing_of}
 use Rattle.tg_model.specs.declared.command.Deed.{Deed}

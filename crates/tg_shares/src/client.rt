@@ -92,8 +92,8 @@ impl<L: Round, V: Ledger, E: Ledger> Client<L, V, E> {
         created
     }
 
-    /// Makes a subject, under the lock, and returns its session, which has no receipt. The new session's purse is the
-    /// part that its maker splits off from its own purse ([`Purse::split_off`]).
+    /// Makes a subject, under the lock, and returns its session, which has no receipt. The new session's purse is what
+    /// its maker splits off from its own ([`Purse::split_off`]).
     ///
     /// A new name has added exactly one receipt, and the purse pays one vertex and one entry for it. Whatever other
     /// clients made, this call never reports that no more vertices may be made. `WorkersFull` has added one receipt,

@@ -1,4 +1,4 @@
-//! The value in the lock, and how each call changes it.
+//! What is in the lock, and what each call does to it.
 ghost use Rattle.std.specs.Prelude.{◌≡◌, ◌≢◌, ◌<◌, ◌≤◌, ◌+◌, Err, IfOk, IfErr, length, true};
 ghost use Rattle.tg_shares.specs.Shares.{IsCovered};
 ghost use Rattle.tg_shares.specs.Tills.{ArePaid};

@@ -1,4 +1,4 @@
--- The suppositions of the options. Some subjects take no turns, and some edges are asked about as if they were there.
+-- What the options suppose: who takes no turns, and edges that are asked about as if they were there.
 use Rattle.std.specs.Prelude.{◌≡◌, ◌≢◌, ℕ, ◌<◌, List, ◌++◌, codes}
 use Rattle.std.specs.List.{All, AllZip}
 use Rattle.clap.specs.declared.parser.matches.ArgMatches.{ArgMatches}
@@ -36,7 +36,6 @@ pub record IsSupposed (matches : ArgMatches) (supposed : Supposed) : Type 0 wher
 abbrev pub JoinsMade : ℕ → Edge → Type 0
 JoinsMade made edge = (edge.from < made) × (edge.to < made)
 
--- The first is a picture of each of these graphs, which have both ends of these edges. Then the second is a picture of the graph
--- with the edges.
+-- of each graph that the one is a picture of, and that has both ends of these edges, the other is a picture with the edges
 abbrev pub Supposes : Shown → List Edge → Shown → Type 0
 Supposes old edges new = (g : ProtectionGraph) → IsPictureOf old g → All (JoinsMade g.made) edges → IsPictureOf new (with_edges g edges)

@@ -1,4 +1,4 @@
--- The start of a run, and the faults that are looked for before any input is read.
+-- What a run starts from, and the faults that are looked for before any input is read.
 use Rattle.std.specs.Prelude.{◌≡◌, ◌<◌, ◌≤◌, ℕ, true, List, map, replicate}
 use Rattle.tg_model.specs.declared.opening.TheConstants.{MAX_WORKERS}
 use Rattle.tg_model.specs.declared.value.Value.{Value}
@@ -36,7 +36,7 @@ IsResumeFault o StrictRace = ⊥
 IsResumeFault o ResumedRace = (items : List StockItem) × IsStockText o.stock.now items × (o.race ≡ true)
 IsResumeFault o OutOfMemory = (items : List StockItem) × IsStockText o.stock.now items
 
--- the start of a run is valid, because its number of workers is in its range
+-- what a run asks of where it starts: the number of workers is in its range
 abbrev pub IsReady : Start → Type 0
 IsReady s = (1 ≤ s.settings.workers) × (s.settings.workers ≤ MAX_WORKERS)
 

@@ -1,4 +1,4 @@
--- A strict run, and its exit status.
+-- What a strict run is, and its exit status.
 use Rattle.std.specs.Prelude.{◌≡◌, ℕ, Bool, true, false, List, Option, Some, None}
 use Rattle.std.specs.List.{list_any}
 use Rattle.tg_text.specs.declared.answer.Answer.{Answer}
@@ -7,12 +7,12 @@ use Rattle.tg_text.specs.Refusing.{says_refusal}
 use Rattle.tgstore.specs.Serving.{script_start_of}
 use Rattle.tgstore.specs.declared.start.Start.{Start}
 
--- whether a line was denied or refused, if the run is strict
+-- whether a line was denied or refused, where the run is strict
 abbrev pub seen_if : Bool → Bool → Option Bool
 seen_if false saw = None
 seen_if true saw = Some saw
 
--- 3 if the run is strict and a line was denied or refused, else 0
+-- 3 where the run is strict and a line was denied or refused, else 0
 abbrev pub status_if : Bool → Bool → ℕ
 status_if true true = 3
 status_if true false = 0

@@ -18,7 +18,7 @@ pub struct Options<'a> {
     pub stock: &'a str,
     /// The file of the history that the run goes on from, if there is one.
     pub resume: Option<&'a str>,
-    /// The numbers that the words ask of that history.
+    /// What the words ask of that history.
     pub asked: Asked,
 }
 

@@ -1,4 +1,4 @@
-//! The start of a run, and its faults before any input is read.
+//! What a run starts from, and what is wrong with it before any input is read.
 ghost use Rattle.std.specs.Prelude.{◌≡◌, false, true, IfOk, IfErr, OnOk};
 ghost use Rattle.tg_text.specs.Stock.{IsStockText};
 ghost use Rattle.tgstore.specs.Ranges.{AreInRange};
