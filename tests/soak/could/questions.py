@@ -6,13 +6,14 @@ subjects, and edges that are only supposed. Up to 130 names are left, and some q
 plain program makes objects and a subject for each subject that acts. Then it does all takes and grants to the end, by the rules
 written out here. Whoever holds a right then could hold it, and nobody else ever does. Each witness is run after its script by these
 rules, and by tgstore, which has to list the right if x is an active subject. A witness may need more names only if names are short.
-The answers about the history that tgstore writes of the script have to be the answers about the script. The programs are the
-programs that 'rt run' built."""
+The answers about the history that tgstore writes of the script have to be the answers about the script, but for the lines of a
+witness. The programs are the programs that 'rt run' built."""
 
 import argparse
 import random
 import subprocess
 import sys
+from collections import Counter
 from pathlib import Path
 
 sys.dont_write_bytecode = True
@@ -195,25 +196,37 @@ class Checker:
         return words + (["--stock", f"c{boxes}"] if boxes else [])
 
     def answers(self):
-        """Each answer: its word, and the lines after it."""
+        """Each answer, with its question, its word, and the lines after it."""
         asked = [word for name in sorted(self.silent) for word in ("--silent", str(name))]
         asked += [word for edge in self.supposed for word in ("--as-if", edge)] + [word for text in self.asked for word in ("--ask", text)]
         words = self.words(TGCOULD, self.graph.limit, self.boxes) + asked
         ran = subprocess.run(words, input=self.text([]), capture_output=True, text=True, check=False)
         assert ran.returncode == 0, (words, ran.stderr, self.text([]))
-        self.check_history(asked, ran.stdout)
-        for text, answer in zip(self.asked, ran.stdout.split("\n\n"), strict=False):
+        answers = self.parts(ran.stdout)
+        self.check_history(asked, answers)
+        return answers
+
+    def parts(self, output):
+        """Each answer of an output, with its question, its word, and the lines after it."""
+        parts = []
+        for text, answer in zip(self.asked, output.split("\n\n"), strict=False):
             head, _, rest = answer.partition("\n")
             assert head.startswith(text + ": "), (head, text)
-            yield text, head[len(text) + 2:], rest.splitlines()
+            parts.append((text, head[len(text) + 2:], rest.splitlines()))
+        return parts
 
     def check_history(self, asked, answers):
-        """Asks the same about the history that tgstore writes of the script."""
+        """Asks the same about the history that tgstore writes of the script. Each answer has the same word. Lines that differ have
+        to give the right too."""
         words = [*self.words(TGSTORE, self.graph.limit, self.boxes), "--entries"]
         history = subprocess.run(words, input=self.text([]), capture_output=True, text=True, check=True).stdout
         words = self.words(TGCOULD, self.graph.limit, 0) + asked
         ran = subprocess.run(words, input=history, capture_output=True, text=True, check=False)
-        assert (ran.returncode, ran.stdout) == (0, answers), (words, ran.stderr, history)
+        assert ran.returncode == 0, (words, ran.stderr, history)
+        for (text, word, lines), (_, other, others) in zip(answers, self.parts(ran.stdout), strict=True):
+            assert other == word, (text, word, other, words, history)
+            if others != lines:
+                self.check_one(text, other, others, Counter())
 
     def text(self, more):
         return "".join(line + "\n" for line in [*self.lines, *more])
