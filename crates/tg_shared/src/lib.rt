@@ -21,9 +21,9 @@
 //! a session speak of its own receipts and of a store. This store has exactly the entries that the session has then
 //! seen since the start. The answer was right for such a store ('What a session can know' in
 //! docs/inside/ARCHITECTURE.md). Its pass shows which of these entries are its own. They are exactly the entries that
-//! its calls made ('How a session knows its own entries' there). [`close`] says that the journal begins with the
-//! entries that each session has seen. Whenever the lock is free, the store has all entries of the shared store, and
-//! keeps its promise ([`Locked::store`]). The book beside it has then counted each entry since.
+//! its calls made ('How a session knows its own entries' there). [`close`] says that the journal begins with what each
+//! session has seen. Whenever the lock is free, the store has all entries of the shared store, and keeps its promise
+//! ([`Locked::store`]). The book beside it has then counted each entry since.
 //!
 //! A session may make a subject, and gets the session of the new subject ([`Session::spawn`]). This session is owed to
 //! [`close`] too. A subject that retires makes no more entries. Its session is owed all the same.
