@@ -18,8 +18,8 @@ pub data ServesAll : List Asked → StoreState → StoreState → Type 0 where
   next_batch : {batches : List Asked} {old mid new : StoreState} (asked : Asked) (ended : Result ℕ BatchFault)
       → ServesAll batches old mid → ServesCommands asked.worker asked.commands.now mid new ended → ServesAll (batches ++ asked ∷ []) old new
 
--- So many batches were answered first. The store was lost at the batch after them. Each content that a crash may leave says the
--- history after the answered batches, and a front of the entries that the lost batch made.
+-- The first batches were answered, so many of them. The store was lost at the one after them. Each content that a crash may leave says
+-- the history after the batches that were answered, and a front of the entries that the lost one made.
 pub record LosesRun {D : Type 0} (g : disk.Ghosts D) (batches : List Asked) (answered : ℕ) (s : StoreState) (old new : D) : Type 0 where
   pub mid : StoreState
   pub served : ServesAll (take answered batches) s mid

@@ -1,4 +1,4 @@
--- The outcome of the keeper's withdrawal of rights over a vertex, and the knowledge of the keeper after it.
+-- What the keeper's withdrawal of rights over a vertex leaves, and what the keeper knows then.
 use Rattle.std.specs.Prelude.{◌≡◌, ℕ, List, ◌++◌}
 use Rattle.tg_rights.specs.RightSet.{RightSet}
 use Rattle.tg_passes.specs.declared.signed.Maker.TheVariants.{Keeper}
