@@ -1,8 +1,8 @@
-//! The second plain program that the store is measured against, beside reference.rs: nearer to the store in what it does, and as
-//! far from it in how. A payload is a box, as the store's is. A line becomes a command before it runs, and the answer a reply
-//! before it is written; with `--journal` both are kept. It counts the cells that rows would take, by the store's blocks of 64, so
-//! that a heap can be full. A collection of the younger vertices traces from the subjects and from what is old and noted, and
-//! nothing is moved by either collection.
+//! The second plain program with which the store is compared, beside reference.rs. It does more of the store's work than
+//! reference.rs, in its own way. A payload is a box, as the store's is. A line becomes a command before it runs, and the answer
+//! becomes a reply before it is written. With `--journal` both are kept. It counts the cells that rows would take, by the store's
+//! blocks of 64, so that a heap can be full. A collection of the younger vertices traces from the subjects and from the old
+//! vertices that were noted. No collection moves anything.
 //!
 //! Build: rustc -O --edition 2021 boxed.rs
 

@@ -1,5 +1,4 @@
-/* What a call of the C library costs: nanoseconds of processor time, and bytes of malloc, over a million calls of each kind, or of
-   those that are named: calls [label ..]
+/* The cost of a call of the library for C, over a million calls of each kind, or of the kinds that are named: calls [label ..]
 
    Build, after bindings/check: cc -O2 -I bindings -o calls bench/calls.c bindings/out/libkovshenul.a
    Instructions: valgrind --tool=callgrind --toggle-collect=tg_label ./calls label, and that by 1,048,575. */

@@ -2,10 +2,11 @@
 //!
 //!     rustc -O -o groups bench/groups.rs && ./groups
 //!
-//! A model of the table of the kit's map: groups of twelve entries, 9 of them in use on average where the table is full, and the next
-//! group where one is full. It puts rows of several kinds into a table of 1,024 groups (unless another number is given), as long as
-//! it holds, and looks each name up; for the hash of names as the index has it, where four names that follow one another share a
-//! group, for the same with two and with eight, and for a hash of whole names. It prints the mean, and the most for one name.
+//! A model of the table of the kit's map. It has groups of twelve entries, of which 9 are in use on average if the table is full. A
+//! full group goes on in the next group. The program has a table of 1,024 groups, unless another number is given. It puts rows of
+//! several kinds into it, as long as they fit, and looks each name up. It does so for four hashes. The first is the hash of the
+//! index, by which four names that follow one another share a group. In the second and third two and eight names share a group. The
+//! fourth is a hash of whole names. It prints the mean, and the most for one name.
 
 use std::collections::HashSet;
 

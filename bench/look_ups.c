@@ -2,14 +2,14 @@
  *
  *     cc -O2 -msse2 -o look_ups bench/look_ups.c && ./look_ups 1000000
  *
- * A model of what a look-up touches. 64 rows share the vertices. The index of a row has a table of groups of twelve entries, its names,
- * and the numbers of their places, as the kit's map lays them out. It prints nanoseconds a look-up, the least of five times 1,000,000
- * in no order, in four layouts:
+ * A model of the memory that a look-up touches. 64 rows share the vertices. The index of a row has a table of groups of twelve
+ * entries, its names, and the numbers of their places. They are laid out as in the kit's map. It prints nanoseconds a look-up,
+ * the least of five times 1,000,000 in no order, in four layouts:
  *
  *   cell      the number of the place leads to the list of the row's cells, and that to the cell, which has the label
  *   number    the label is eight bits of the number of the place
  *   entry     the same, with name and number side by side
- *   word      a table of words of 64 bits alone: each a name of 32 bits, a number and a label
+ *   word      a table of words of 64 bits alone, each with a name of 32 bits, a number and a label
  */
 #include <emmintrin.h>
 #include <stdint.h>

@@ -1,7 +1,7 @@
-//! The plain program that the store is measured against: the same scripts and replies, written in plain Rust with no
-//! proof in mind. A vertex is a struct with an ordered map of its edges, and knows whether it is a subject. A collection marks what
-//! is reached and empties the rest, and moves nothing; one of the younger cells does nothing. With `--journal` it keeps each command with its answer,
-//! as the store does.
+//! The plain program with which the store is compared. It runs the same scripts with the same replies, and is written in plain Rust with no
+//! proof in mind. A vertex is a struct with an ordered map of its edges, and knows whether it is a subject. A collection marks the reached
+//! vertices, empties the others, and moves nothing. A collection of the younger cells does nothing. With `--journal` it keeps each command
+//! with its answer, as the store does.
 //!
 //! Build: rustc -O --edition 2021 reference.rs
 

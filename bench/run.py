@@ -1,13 +1,13 @@
 #!/usr/bin/env python3
 """run.py [PROGRAM] [--rounds N] [--only WORD] [--instructions]
 
-Runs the store on scripts that it makes, beside two plain programs that keep a journal as the store does: reference.rs, whose vertices
-hold their states, and boxed.rs, whose payloads are boxes and which counts cells. For each script it prints the seconds of processor time
-of the three (the median of the rounds, which take turns), the store's by each of the others', which of these is the leaner one, and
-whether all wrote the same. With --instructions it counts, by valgrind and once each, instructions in place of seconds: in millions, and
-whatever else the machine does. Some scripts show one thing alone: of these what is taken counts, less what a script without it takes.
-With --only it runs the scripts alone whose name has the word. It asserts nothing.
-PROGRAM is crates/tgstore/out/tgstore unless it is given."""
+Runs the store on scripts that it makes, beside two plain programs that keep a journal as the store does. In reference.rs vertices hold
+their states. In boxed.rs payloads are boxes, and cells are counted. For each script it prints the seconds of processor time of the
+three, as the median of rounds that take turns. It prints the store's time by each of the others', which of these is the leaner one, and
+whether all wrote the same. With --instructions it counts millions of instructions in place of seconds, by valgrind and once each. Other
+work on the machine doesn't change them. Some scripts show one thing alone. Their figure is the figure of the script, less the figure of
+a script without that thing. With --only it runs only the scripts whose name has the word. It asserts nothing. PROGRAM is
+crates/tgstore/out/tgstore unless it is given."""
 import argparse
 import os
 import statistics
@@ -82,7 +82,7 @@ def collections():
 
 
 def fulls(workers):
-    """200 full collections of 30,000 vertices in Old, in the rows of so many workers: what these take alone."""
+    """The cost of 200 full collections of 30,000 vertices in Old alone, in the rows of so many workers."""
     words, lines = vertices_of(workers)
     return words, lines + ["full"] * 201, lines + ["full"]
 
@@ -108,7 +108,7 @@ def holes():
 
 
 def minors():
-    """1,000 nursery collections beside a row of 20,000 vertices in Old, with nothing made between them: what these take alone."""
+    """The cost of 1,000 nursery collections alone, beside a row of 20,000 vertices in Old, with nothing made between them."""
     lines = ["0 create r"] * 20_000 + ["full"]
     return ["--workers", "1", "--stock", "c20000"], lines + ["minor"] * 1_000, lines
 

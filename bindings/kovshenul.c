@@ -1,4 +1,4 @@
-/* What is before the proved calls: NULL for an array of no items and for a denial that isn't wanted, several commands in one
+/* What is before the proved calls: NULL for an array of no items and for a denial that isn't needed, several commands in one
    call, the texts of statuses, denials and rights, and the library's version.
 
    It is tested, and nothing of it is proved. The build names each proved call below proved_.., and links this file with
@@ -270,7 +270,7 @@ tg_status tg_snapshot_read(tg_snapshot *snapshot, const char *text, size_t lengt
 
 enum { MOST_COMMANDS = 1024, MOST_BITS = 255 };
 
-/* What refuses a command before the store is looked at, or TG_DONE. */
+/* The status that refuses a command before the store is looked at, or TG_DONE. */
 static tg_status fault_of(const tg_command *it) {
     switch (it->deed) {
     case TG_DEED_TAKE:

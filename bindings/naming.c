@@ -23,7 +23,7 @@ static const char *deed_text(uint32_t deed) {
     }
 }
 
-/* The word of a rule. The numbers of the rules are those of their deeds. */
+/* The word of a rule. The numbers of the rules are the numbers of their deeds. */
 static const char *rule_text(uint32_t rule) {
     return rule <= TG_RULE_INSPECT ? deed_text(rule) : "unknown rule";
 }
@@ -68,7 +68,7 @@ static void put_denial(struct writer *to, const tg_denial *denial, const tg_nami
     }
 }
 
-/* ---- who asked, and for what */
+/* ---- the worker that asked, and its deed */
 
 static void put_next_vertex(struct writer *to, uint64_t vertex, const tg_naming *names) {
     put(to, ' ');

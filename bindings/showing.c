@@ -1,4 +1,5 @@
-/* What a snapshot shows, read from its text. The proved reader (tg_snapshot_read) judges the text. Nothing here does, or reads a store.
+/* The parts of a snapshot, read from its text. The proved reader (tg_snapshot_read) judges the text. Nothing here does, or reads
+   a store.
 
    It is tested, and nothing of it is proved. The build compiles it beside kovshenul.c. */
 #include "kovshenul.h"
@@ -6,7 +7,7 @@
 
 enum { MOST_NUMBERS = 64 };
 
-/* What is left of the text. */
+/* The text that is left. */
 struct reader {
     const char *at, *end;
 };

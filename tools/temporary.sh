@@ -1,5 +1,5 @@
-# temporary.sh: what the scripts in sh share that prove a program of their own. A script reads it in with `.`, once `here` names the
-# script's own folder and `top` the repository's.
+# temporary.sh: the parts that the scripts in sh share which prove a program of their own. A script reads it in with `.`, once `here` names
+# the script's own folder and `top` the repository's.
 #
 # look_at_words MOST WORD..: for --help it prints the comment at the script's head, and ends. It refuses any other option, and more
 # words than MOST. A script calls it before it starts any work.
@@ -23,10 +23,10 @@ refuse_word() {
     exit 2
 }
 
-# take_crates PROGRAM CRATE..: puts these crates and all that they depend on, and beside them the script's own program (`main.rt.in`, a name that the gate
-# passes over, or the file that `source` names), into a temporary folder, which is gone when the script ends. The program may use each of the crates that
-# are named. From then on `build` names the folder, and `program` the folder of the program in it. What is proved of a crate comes along with its times, so
-# that it isn't proved again.
+# take_crates PROGRAM CRATE..: puts these crates, and all crates that they depend on, into a temporary folder, which is gone when the script
+# ends. Beside them it puts the script's own program. It is `main.rt.in`, a name that the gate passes over, or the file that `source` names.
+# The program may use each of the crates that are named. From then on `build` names the folder, and `program` the folder of the program in
+# it. The proofs of a crate come along with their times, so that it isn't proved again.
 take_crates() {
     take_libraries "$@"
     cp "${source:-$here/main.rt.in}" "$program/src/main.rt"

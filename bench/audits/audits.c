@@ -1,7 +1,8 @@
-/* What the audit of a journal costs beside the commands that made it: processor time of both, and their ratio, in one order of commands.
+/* The cost of the audit of a journal beside the cost of the commands that made it. It is the processor time of both, and their
+   ratio, in one order of commands.
 
-   audits ORDER [VERTICES]: worker 0 makes the vertices (200,000 unless another number is given), and worker 1 gets a right over each, or
-   the rows lose them, in this order:
+   audits ORDER [VERTICES]: worker 0 makes the vertices (200,000 unless another number is given). Then worker 1 gets a right over
+   each, or the rows lose them, in this order:
      up        first to last, by grants of worker 0
      down      last to first, by grants of worker 0
      random    in an order that a seeded generator draws, by takes of worker 1

@@ -1,10 +1,11 @@
-/* What a store costs as it grows: large [VERTICES ..] (500,000, 1,000,000, 2,000,000 and 3,000,000 unless another number is
+/* The cost of a store as it grows: large [VERTICES ..] (500,000, 1,000,000, 2,000,000 and 3,000,000 unless another number is
    given).
 
-   Worker 0 makes the vertices, grants worker 1 a right over each, ten full collections are made, and the journal is audited, in a store with
-   65,536 blocks in each space. Of each number of vertices it prints the processor time of a create, of a grant, of a cell that a collection
-   copies, and of an entry that the audit replays, in nanoseconds. The last store is then filled until a create answers that the heap is full:
-   that must change nothing but what the creates before it made, and the audit must find each entry.
+   The store has 65,536 blocks in each space. Worker 0 makes the vertices, and grants worker 1 a right over each. Then ten full
+   collections are made, and the journal is audited. For each number of vertices it prints processor times in nanoseconds. They
+   are of a create, of a grant, of a cell that a collection copies, and of an entry that the audit replays. The last store is then
+   filled until a create answers that the heap is full. The store must then have only the vertices of the creates before it, and
+   the audit must find each entry.
 
    Build, after bindings/check: cc -O2 -I bindings -o large bench/audits/large.c bindings/out/libkovshenul.a */
 #include "kovshenul.h"

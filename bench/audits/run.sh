@@ -1,6 +1,7 @@
 #!/bin/sh
-# run.sh: how long the audit of a journal takes beside the commands that made it, in each order that audits.c knows, by the library for C that
-# bindings/check has built. Three runs of each. The line with the ratio in the middle is printed. It needs a C compiler, sort and sed.
+# run.sh: how long the audit of a journal takes beside the commands that made it, in each order that audits.c knows. It calls the library
+# for C that bindings/check has built. Of three runs of each order it prints the line with the ratio in the middle. It needs a C compiler,
+# sort and sed.
 set -eu
 here=$(cd "$(dirname "$0")" && pwd)
 top=$(cd "$here/../.." && pwd)

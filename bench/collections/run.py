@@ -1,13 +1,14 @@
 #!/usr/bin/env python3
 """run.py [--instructions]
 
-What collections of young vertices take, and the first nursery collection after a full one, through the library for C that
+The cost of collections of young vertices, and of the first nursery collection after a full one. It calls the library for C that
 bindings/check has built (young.c).
 
-By itself it prints the processor time of the first nursery collection after a full one and of the next one, each of 1,000 young
-vertices, at 10,000, 100,000 and 1,000,000 vertices: medians of nine runs, and their ratio. With --instructions it counts, under
-valgrind, what a full collection and one of the nurseries take for a vertex that was just made, at 100,000 and at 1,000,000, and
-prints how many times as much the second is. It needs a C compiler."""
+By itself it prints the processor time of the first nursery collection after a full one, and of the nursery collection after it.
+Each is of 1,000 young vertices, beside 10,000, 100,000 and 1,000,000 vertices. The times are medians of nine runs, and their
+ratio comes after them. With --instructions it counts instructions for a vertex that was just made, under valgrind. It counts a
+full and a nursery collection, at 100,000 and at 1,000,000 vertices, and prints how many times as many the second number has. It
+needs a C compiler."""
 import argparse
 import os
 import subprocess

@@ -1,8 +1,8 @@
 /* Collections of young vertices, and the first ones after a full collection: young VERTICES STEPS
 
-   64 workers make so many vertices, a row each. STEPS are letters, one after the other: f is a full collection, n one of the
-   nurseries, c makes 1,000 more vertices. It prints the processor time of each f and n in microseconds, on a line each.
-   collections/run.py builds and runs it. */
+   64 workers make so many vertices, a row each. STEPS are letters, one after the other. An f is a full collection, an n is a
+   collection of the nurseries, and a c makes 1,000 more vertices. It prints the processor time of each f and n in
+   microseconds, on a line each. collections/run.py builds and runs it. */
 #include "kovshenul.h"
 #include <stdio.h>
 #include <stdlib.h>

@@ -1,4 +1,5 @@
-// cells.h: what the bare copiers share: cells in blocks of 64, references to them, numbers that look random, and the clock.
+// cells.h: the parts that the bare copiers share. They are cells in blocks of 64, references to them, numbers that look
+// random, and the clock.
 #include <stdint.h>
 #include <stdio.h>
 #include <stdlib.h>

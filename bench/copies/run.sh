@@ -1,7 +1,7 @@
 #!/bin/sh
-# run.sh: bytes copied a second by full collections of a live heap of 35,008 cells, tree-like and random, beside a bare copier in C
-# (copier.c) and memcpy. It proves, builds and runs the program and proofs beside it (`*.in`), with the crates that it needs, in a
-# temporary folder. The two take turns; a number is the best of five. It needs cc and awk.
+# run.sh: bytes a second that full collections copy of a live heap of 35,008 cells, tree-like and random. Beside them come a bare
+# copier in C (copier.c) and memcpy. It proves, builds and runs the program and proofs beside it (`*.in`), with the crates that it
+# needs, in a temporary folder. The two take turns, and a number is the best of five. It needs cc and awk.
 set -eu
 here=$(cd "$(dirname "$0")" && pwd)
 top=$(cd "$here/../.." && pwd)

@@ -31,8 +31,8 @@ fn picture(vertices: u64, edges: u64, seed: u64) -> Vec<Edge> {
         .collect()
 }
 
-// The vertex at the other end four times, two more for take, one more for grant, and the next link of the same vertex, but
-// until the links are tied the vertex.
+// Four times the vertex at the other end, and two more for take, one more for grant. Then the next link of the same
+// vertex, or the vertex itself until the links are tied.
 #[derive(Clone, Copy)]
 struct Link {
     packed: u32,

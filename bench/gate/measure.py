@@ -6,24 +6,24 @@ measure.py goals CRATE                      which goals and lemmas its checks to
 
 All run at the top of the repository that the script is in, and print Markdown.
 
-`whole` runs `rt ci` once, from nothing, and writes what it says to LOG (out.txt in a temporary folder unless it is
-given). It gives `rt ci` the option `--anew` if the toolchain has that option. A toolchain without the option proves
-everything from nothing each time. The total is the processor time of the gate and of all that it started, as the kernel counts it once they have
-ended. The shares of the crates are sampled ten times a second, so a little is missing from each. It lists each edit that
-took more than 15 seconds of processor time, and its status is that of the gate.
+`whole` runs `rt ci` once, from nothing, and writes what it says to LOG (out.txt in a temporary folder unless it is given). It gives `rt ci`
+the option `--anew` if the toolchain has that option. A toolchain without the option proves everything from nothing each time. The total is
+the processor time of the gate and of all that it started, as the kernel counts it once they have ended. The shares of the crates are
+sampled ten times a second, so a little is missing from each. It lists each edit that took more than 15 seconds of processor time, and its
+status is that of the gate.
 
-`everyday` puts a statement that does nothing in front of one body of `tg_model`, of `tg_graph` and of `tg_store`, one after the other; runs `rt check`
-in that crate, and then in `tg_store`, which depends on the other two, and puts the file back. A round before these isn't counted. It proves all that
-is below `tg_store`.
+`everyday` puts a statement that does nothing in front of one body of `tg_model`, of `tg_graph` and of `tg_store`, one after the other. It
+runs `rt check` in that crate, and then in `tg_store`, which depends on the other two. Then it puts the file back. A round before these
+isn't counted. It proves all that is below `tg_store`.
 
-`functions` checks nothing: it reads when each module of `out/incremental` was written. What is between one and the one
-before it is the time of that module, by the clock. The part `Lts` of a function is what it owns and borrows at each of
-its points. It says nothing of a folder that more than one check wrote to.
+`functions` checks nothing. It reads when each module of `out/incremental` was written. The time of a module, by the clock, is the time
+since the module before it. The part `Lts` of a function has the places that it owns and borrows at each of its points. A folder that more
+than one check wrote to has no times.
 
-`goals` checks nothing either: it reads what the checker noted of each goal and each lemma in `out/incremental`, which
-other work hardly moves. A goal that has an answer since the folder was begun is still told.
+`goals` checks nothing either. It reads the notes of the checker on each goal and each lemma in `out/incremental`, which other work hardly
+moves. A goal that got an answer after the folder was begun is still listed.
 
-Other work on the machine moves all of it: the load is printed beside the figures."""
+Other work on the machine moves all figures, so the load is printed beside them."""
 import json
 import os
 import re

@@ -1,12 +1,13 @@
 #!/bin/sh
-# run.sh: how long full collections of live heaps take by one thread, by one seated helper, by 2 and by 4 helpers, beside a bare copier
-# in C (copier.c) that is alone, with blocks that are there ('bare') or with blocks that it takes anew as a collection does ('anew'),
-# or claims its cells by a compare-and-exchange with 1, 2 and 4 threads. Heaps of 35,008 and of 1,000,000 cells: rows of 64 workers, a
-# tree, and one whose cells are shuffled. It proves, builds and runs the program and proofs beside it (`main.rt.in`,
-# FUNCTION.FILE.antt.in), with the crates that it needs, in a temporary folder. The two take turns; a number is the best of three
-# medians. It prints two tables: malloc as it comes, which gives freed memory back to the system, and malloc that keeps it. With
-# --instructions it counts instead, by valgrind, what one thread and one seated helper take for a cell of the smaller heaps. It needs
-# cc and awk. Where ghc is found, GHC's own collector with one thread and with two is below (GcBench.hs).
+# run.sh: how long full collections of live heaps take by one thread, by one seated helper, and by 2 and 4 helpers. Beside them comes a
+# bare copier in C (copier.c). It works alone, with blocks that exist ('bare') or with blocks that it takes anew as a collection does
+# ('anew'). Or it claims its cells by a compare-and-exchange with 1, 2 and 4 threads. The heaps have 35,008 and 1,000,000 cells. They
+# are rows of 64 workers, a tree, and a tree whose cells are shuffled. It proves, builds and runs the program and proofs beside it
+# (`main.rt.in`, FUNCTION.FILE.antt.in), with the crates that it needs, in a temporary folder. The two take turns, and a number is the
+# best of three medians. It prints two tables. The first is with malloc as it comes, which gives freed memory back to the system, and
+# the second with malloc that keeps it. With --instructions it counts instructions for a cell of the smaller heaps, by valgrind. They
+# are of one thread and of one seated helper. It needs cc and awk. If ghc is found, GHC's own collector with one thread and with two
+# comes below (GcBench.hs).
 set -eu
 here=$(cd "$(dirname "$0")" && pwd)
 top=$(cd "$here/../.." && pwd)

@@ -38,7 +38,7 @@ def kinds(document):
 
 
 def run(kind, calls, ended):
-    """Makes the calls on a store of its own, with a row of two edges. What is told when they begin and when they have ended."""
+    """Makes the calls on a store of its own, with a row of two edges. The beginning and the end of the calls are reported."""
     with Store([Cell(0), Cell(0)], [Edge(0, 1, GRANT)], LIMITS) as store:
         document = store.create(0, READ | WRITE, Cell(0))
         call = kinds(document)[kind]

@@ -1,9 +1,9 @@
-/* What a store holds where its user may not see it: bytes of malloc, after each step of a store's life.
+/* The memory that a store holds where its user may not see it, in bytes of malloc after each step of a store's life.
 
-   held [VERTICES]: worker 0 makes the vertices (100,000 unless another number is given), gives up its rights over each, and collects twice. Then
-   it makes, gives up and collects ten vertices. What stays beside the journal is what a peak leaves: blocks that are kept for the next collection,
-   the index of a row that shrank, the tables of payloads and of what is remembered. The last line is of a store that never had a vertex more, with
-   as many entries.
+   held [VERTICES]: worker 0 makes the vertices (100,000 unless another number is given), gives up its rights over each, and
+   collects twice. Then it makes, gives up and collects ten vertices. Beside the journal the memory of a peak stays. There are
+   blocks that are kept for the next collection, and the index of a row that shrank. There are the tables of payloads and of
+   remembered places. The last line is of a store that never had a vertex more, with as many entries.
 
    Build, after bindings/check: cc -O2 -I bindings -o held bench/memory/held.c bindings/out/libkovshenul.a */
 #include "kovshenul.h"
@@ -51,7 +51,7 @@ static void remove_all(uint64_t first, uint64_t count) {
         want(tg_remove(&store, 0, first + at, TG_READ, &why) == TG_DONE);
 }
 
-/* Makes so many vertices, gives them up, and collects twice; tells of each step. */
+/* Makes so many vertices, gives them up, and collects twice. Prints a line for each step. */
 static void live(uint64_t count) {
     uint64_t first = create();
     for (uint64_t at = 1; at < count; at++)

@@ -1,10 +1,10 @@
-/* A store at the ends of its ranges, and that each call on the way there is answered as it has to be.
+/* A store at the ends of its ranges. Each call on the way to them has to be answered right.
 
-   largest blocks    fills 65,536 blocks with vertices of one worker, to the last cell; collects; gives every other one up, collects, and
-                     fills the heap again
+   largest blocks    fills 65,536 blocks with vertices of one worker, to the last cell, and collects. Then it gives up every
+                     other one, collects, and fills the heap again
    largest names     makes and gives up vertices until all 2^24 names are used, and audits the journal
 
-   It prints how many there were and the processor time of each part. The first takes some 1.5 GB, the second 3.5.
+   It prints how many there were and the processor time of each part. The first takes some 1.5 GB, and the second 3.5 GB.
 
    Build, after bindings/check: cc -O2 -I bindings -o largest bench/memory/largest.c bindings/out/libkovshenul.a */
 #include "kovshenul.h"

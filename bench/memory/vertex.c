@@ -1,5 +1,5 @@
-/* Tells, of the program that it is loaded into (LD_PRELOAD), how many bytes malloc has handed out, with headers, when standard input
-   ends: one line on standard error. */
+/* It is loaded into a program (LD_PRELOAD), and prints how many bytes malloc has handed out, with headers, when standard input
+   ends. It prints one line on standard error. */
 #define _GNU_SOURCE
 #include <dlfcn.h>
 #include <malloc.h>

@@ -1,10 +1,10 @@
 #!/usr/bin/env python3
 """vertex.py [PROGRAM]
 
-Prints how many bytes of malloc, with headers, a vertex takes with its payload, its entry of the journal and its reference, in the store
-and in both plain programs: what a script of twice as many creates holds at its end more, over how many these are. Vectors and tables
-that double are full or half empty by how many that is. So there are two numbers. It needs cc and rustc, and asserts nothing. PROGRAM is
-crates/tgstore/out/tgstore unless it is given."""
+Prints how many bytes of malloc, with headers, a vertex takes in the store and in both plain programs. The vertex comes with its
+payload, its entry of the journal and its reference. A script with twice as many creates holds more at its end, and this is divided by
+how many creates it has more. Vectors and tables that double are full or half empty by this number. So there are two numbers. It needs
+cc and rustc, and asserts nothing. PROGRAM is crates/tgstore/out/tgstore unless it is given."""
 import argparse
 import os
 import re

@@ -1,7 +1,8 @@
 #!/bin/sh
-# run.sh: how long a nursery collection takes beside 5,000 old vertices, beside 50,000, and beside a row of 10,000 edges in Old,
-# and the making and giving up of a vertex before it, in microseconds, and the ratios to the first. It proves, builds and runs the
-# program beside it, with the crates that it needs, in a temporary folder. A number is the best of five. It needs awk.
+# run.sh: how long a nursery collection takes beside 5,000 old vertices, beside 50,000, and beside a row of 10,000 edges in Old.
+# The time has the making and giving up of a vertex before it. It prints microseconds, and the ratios to the first. It proves,
+# builds and runs the program beside it, with the crates that it needs, in a temporary folder. A number is the best of five. It
+# needs awk.
 set -eu
 here=$(cd "$(dirname "$0")" && pwd)
 top=$(cd "$here/../.." && pwd)

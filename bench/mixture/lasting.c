@@ -1,14 +1,16 @@
-/* What a store that lives for years holds, through the library for C: lasting LIVE COMMANDS [alone] [sweep] [trim]
+/* The memory that a store that lives for years holds, through the library for C: lasting LIVE COMMANDS [alone] [sweep] [trim]
 
-   16 workers have LIVE vertices between them (over 2,000), of which half may be read by the next worker too, and 1,000 of which have edges
-   to five others. Of 100 commands 60 are reads that are served, 15 reads that are denied, 5 looks at such a row, 10 grants or removes of
-   the next worker's edge, and 10 steps of a vertex's end, by removes, and the create of another in its place. A nursery collection comes
-   after each 10,000, a full one after each 200,000, and each 10,000 entries are audited and given up. Names may come to 2^48.
-     alone   no auditor: the entries are given up
-     sweep   tg_auditor_sweep behind each full collection
-     trim    malloc_trim(0) behind each 10,000
-   After each million it prints, in MB, what is resident and in use now and was at most since the vertices were made, what the auditor has
-   and had at most, and the nanoseconds of processor time of a command and of an entry's audit in this million.
+   16 workers have LIVE vertices between them (over 2,000). Half of these may be read by the next worker too, and 1,000 have edges
+   to five others. Of 100 commands 60 are reads that are served, 15 are reads that are denied, and 5 are looks at a row of five
+   edges. 10 are grants or removes of the next worker's edge. The last 10 end a vertex by removes, and create another in its place.
+   A nursery collection comes after each 10,000, a full one after each 200,000, and each 10,000 entries are audited and given up.
+   Names may come to 2^48.
+     alone   no auditor, and the entries are given up
+     sweep   tg_auditor_sweep after each full collection
+     trim    malloc_trim(0) after each 10,000
+   After each million it prints, in MB, the memory that is resident and in use now, and the most since the vertices were made. Then
+   it prints the memory of the auditor now and at most. The last figures are nanoseconds of processor time in this million, of a
+   command and of an entry's audit.
 
    Build, after bindings/check: cc -O2 -I bindings -o lasting bench/mixture/lasting.c bindings/out/libkovshenul.a */
 #include "kovshenul.h"

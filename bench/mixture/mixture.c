@@ -1,7 +1,7 @@
-/* What a mixture of commands costs through the library for C: mixture FILE [setup]
+/* The cost of a mixture of commands through the library for C: mixture FILE [setup]
 
-   FILE has what Mixture.bytes of mixture.py gives. With setup after it only the vertices are made. It prints a sum over all
-   answers, page faults, the bytes of malloc, and the processor time. mixture/run.py builds and runs it. */
+   FILE has the bytes of Mixture.bytes of mixture.py. With setup after it only the vertices are made. It prints a sum over
+   all answers, page faults, the bytes of malloc, and the processor time. mixture/run.py builds and runs it. */
 #include "kovshenul.h"
 #include <malloc.h>
 #include <stdio.h>

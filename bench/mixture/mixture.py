@@ -1,6 +1,6 @@
-"""mixture.py: the commands of a server of capabilities, made at random from a seed: 60 of 100 are reads that are served, 15 reads
-that are denied, 5 looks at a row of five edges, 10 grants, 5 creates and 5 removes, by 16 workers. A nursery collection comes after
-each 10,000, and a full one after each 200,000."""
+"""mixture.py: the commands of a server of capabilities, made at random from a seed, by 16 workers. Of 100 commands 60 are reads that
+are served, 15 are reads that are denied, and 5 are looks at a row of five edges. Then there are 10 grants, 5 creates and 5 removes. A
+nursery collection comes after each 10,000, and a full one after each 200,000."""
 import itertools
 import random
 import struct
@@ -33,7 +33,7 @@ CREATES = [Step(CREATE, worker, rights=MAKERS) for worker in range(WORKERS)]
 
 
 class Held:
-    """What a worker has edges to, and with which rights; a random one in constant time."""
+    """The vertices to which a worker has edges, and with which rights. It draws a random edge in constant time."""
 
     def __init__(self):
         self.names, self.places, self.rights = [], {}, {}
@@ -114,7 +114,8 @@ class Mixture:
         return [f"edge {a} {b} g" for a, b in edges()] + [line_of(step) for step in self.setup + self.steps]
 
     def bytes(self):
-        """What mixture.c reads: how many steps there are, how many of them make the vertices, how many workers and edges, and these."""
+        """The bytes that mixture.c reads. They are how many steps there are, how many of them make the vertices, how many workers and
+        edges there are, and these."""
         count = len(self.setup) + len(self.steps)
         packed = bytearray(struct.pack("<IIII", count, len(self.setup), WORKERS, len(edges())))
         for edge in edges():

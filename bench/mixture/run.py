@@ -1,10 +1,11 @@
 #!/usr/bin/env python3
 """run.py [LIVE] [COMMANDS] [--instructions]
 
-What a mixture of commands (mixture.py) costs through the library for C that bindings/check has built, and in the plain program
-../boxed.rs (with rival.rs after it): 500,000 vertices and 1,000,000 commands unless they are given. It prints what each of the two
-prints, of the whole and of the making of the vertices alone, whose sums over all answers have to be the same; with --instructions the
-millions of instructions, under valgrind. It needs a C compiler and rustc. bench/run.py runs mixtures as scripts."""
+The cost of a mixture of commands (mixture.py). It is run through the library for C that bindings/check has built, and in the plain
+program ../boxed.rs (with rival.rs after it). The mixture has 500,000 vertices and 1,000,000 commands unless they are given. It
+prints the lines of both programs, for the whole and for the making of the vertices alone. Their sums over all answers have to be the
+same. With --instructions it prints the millions of instructions, under valgrind. It needs a C compiler and rustc. bench/run.py runs
+mixtures as scripts."""
 import argparse
 import multiprocessing
 import os

@@ -1,8 +1,8 @@
-/* What subjects that come and go leave, through the library for C: spawns COUNT
+/* The memory that subjects leave which come and go, through the library for C: spawns COUNT
 
-   Eight workers in turn spawn a subject, grant it a document, give up their edge to it, and it reads, writes and retires. Each 10,000
-   entries are given up, with a nursery collection, and each 500,000 come with a full one. It prints, in MB, what was in use and resident at
-   most by the first 10,000 subjects and by all.
+   Eight workers in turn spawn a subject, grant it a document, and give up their edge to it. The subject reads, writes and
+   retires. Each 10,000 entries are given up, with a nursery collection, and each 500,000 come with a full one. It prints, in MB,
+   how much memory was in use and resident at most by the first 10,000 subjects and by all.
 
    Build, after bindings/check: cc -O2 -I bindings -o spawns bench/mixture/spawns.c bindings/out/libkovshenul.a */
 #include "kovshenul.h"

@@ -1,10 +1,10 @@
 #!/bin/sh
-# run.sh: how long collections hold the lock of a shared store, and how long a client's calls take beside them, in microseconds:
-# 100,000 and 1,000,000 vertices in Old, full and nursery collections, by one thread and by two, three and four helpers. For a
-# second one worker makes a thousand vertices, gives them up and collects, again and again, and the other, on a thread of its own,
-# reads. A collection's time is that of its call, and so has what it waited for one read to end. It proves, builds and runs the
-# program beside it (`*.in`), with the crates that it needs, in a temporary folder. The longest of three runs is in the table, and
-# for the calls' 99th percentile the middle one. It needs awk.
+# run.sh: how long collections hold the lock of a shared store, and how long a client's calls take beside them, in microseconds.
+# There are 100,000 and 1,000,000 vertices in Old. The collections are full and nursery collections, by one thread and by two,
+# three and four helpers. For a second one worker makes a thousand vertices, gives them up and collects, again and again. The
+# other worker reads on a thread of its own. A collection's time is the time of its call, with the wait for one read to end. It
+# proves, builds and runs the program beside it (`*.in`), with the crates that it needs, in a temporary folder. The longest of
+# three runs is in the table, and for the calls' 99th percentile the middle one. It needs awk.
 set -eu
 here=$(cd "$(dirname "$0")" && pwd)
 top=$(cd "$here/../.." && pwd)

@@ -1,5 +1,6 @@
-/* Counts the bytes that the program which it is loaded into (LD_PRELOAD) holds of malloc, in the file that COUNTED_IN names: what is
-   held now, and the most that was held. Whoever reads the file may set the most anew. The program has one thread. */
+/* It is loaded into a program (LD_PRELOAD), and counts the bytes of malloc that the program holds. The file that COUNTED_IN names
+   has the bytes that are held now, and the most that were held. A reader of the file may set the most anew. The program has one
+   thread. */
 #define _GNU_SOURCE
 #include <fcntl.h>
 #include <malloc.h>

@@ -1,14 +1,15 @@
 #!/usr/bin/env python3
 """run.py [--entries N] [--vertices N] [--rounds N]
 
-What it costs to resume a store from entries, and to reopen a store from a snapshot. The first table compares `resume` with the calls of
-`apply` and `make` that made the same entries. The store has 8 workers and 100,000 objects that live. The entries, 10,000,000 unless N is
-given, are in memory already, in parts of 10,000, and the store forgets each part. The second table compares `Store::reopen` with the
-creates and grants that made the same graph: 1,000,000 objects and twice as many edges, unless N is given.
+The cost to resume a store from entries, and to reopen a store from a snapshot. The first table compares `resume` with the calls of `apply`
+and `make` that made the same entries. The store has 8 workers and 100,000 objects that live. The entries, 10,000,000 unless N is given, are
+in memory already, in parts of 10,000, and the store forgets each part. The second table compares `Store::reopen` with the creates and
+grants that made the same graph. The graph has 1,000,000 objects and twice as many edges, unless N is given.
 
-A time is the processor time of a step, as the median of three rounds, in which the two steps take turns. Memory is of one more run: the
-bytes that the process held of malloc (counted.c), and what was resident, without what was there before the step. The program beside this
-script (main.rt.in) is built without proofs. It needs a C compiler and Linux, 4 GB of memory for 10,000,000 entries, and asserts nothing."""
+A time is the processor time of a step, as the median of three rounds, in which the two steps take turns. Memory is of one more run. It is
+the bytes of malloc that the process held (counted.c), and the resident memory, each without its amount before the step. The program beside
+this script (main.rt.in) is built without proofs. It needs a C compiler and Linux, 4 GB of memory for 10,000,000 entries, and asserts
+nothing."""
 import argparse
 import os
 import re

@@ -1,12 +1,13 @@
-//! What one would write in the place of a store: maps in plain Rust. maps FILE WAY [setup]
+//! A program that a host might have in the place of a store, with maps in plain Rust: maps FILE WAY [setup]
 //!
-//! FILE has what Mixture.bytes of ../mixture/mixture.py gives. With setup after it only the vertices are made. WAY is one of these:
+//! FILE has the bytes of Mixture.bytes of ../mixture/mixture.py. With setup after it only the vertices are made. WAY is one of
+//! these:
 //!
 //! - `edges`: one map from a pair of vertices to rights, and a list of targets for each vertex. Nothing is ever freed.
 //! - `counts`: a map of targets for each vertex, and a count of the edges to it. A vertex goes with its last edge. Circles stay.
 //! - `marks`: a map of targets for each vertex. A full collection marks from the workers, and frees all others.
 //!
-//! Each has the same journal, and checks the same rights. It prints a sum over all answers, which is to be that of
+//! Each has the same journal, and checks the same rights. It prints a sum over all answers, which is to be the sum of
 //! ../mixture/mixture.c, the bytes of malloc, and the processor time.
 use std::collections::HashMap;
 

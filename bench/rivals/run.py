@@ -1,13 +1,14 @@
 #!/usr/bin/env python3
 """run.py [LIVE] [COMMANDS] [--rounds N] [--without-store]
 
-What the store costs beside what one would write in its place: maps in plain Rust (maps.rs) and SQLite in memory (sqlite.c). All run the
-same mixture of commands (../mixture/mixture.py), of 100,000 vertices and 150,000 commands unless they are given, and have to give the
-same answers. The store is called through the library for C that bindings/build has made (../mixture/mixture.c). All keep a journal.
+The cost of the store beside programs that a host might have in its place. One has maps in plain Rust (maps.rs), and one has SQLite in
+memory (sqlite.c). All run the same mixture of commands (../mixture/mixture.py), of 100,000 vertices and 150,000 commands unless they
+are given, and have to give the same answers. The store is called through the library for C that bindings/build has made
+(../mixture/mixture.c). All keep a journal.
 
-It prints a table: millions of commands a second of processor time, for the making of the vertices and for the rest, and the bytes of a
-vertex after the making. A figure is the median of N rounds, 3 unless N is given, in which the programs take turns. It needs rustc, a C
-compiler and SQLite's headers. --without-store leaves the store out."""
+It prints a table. It has millions of commands a second of processor time, for the making of the vertices and for the rest. It also has
+the bytes of a vertex after the making. A figure is the median of N rounds, 3 unless N is given, in which the programs take turns. It
+needs rustc, a C compiler and SQLite's headers. --without-store leaves the store out."""
 import argparse
 import re
 import statistics

@@ -1,8 +1,8 @@
 /* The mixture in SQLite, in memory, by prepared statements: sqlite FILE COMMANDS [setup]
 
-   FILE has what Mixture.bytes of ../mixture/mixture.py gives. COMMANDS is how many commands a transaction has. With setup after it
-   only the vertices are made. Vertices, edges and entries are tables. A full collection is a recursive query. It prints a sum over
-   all answers, which is to be that of ../mixture/mixture.c, the bytes that SQLite holds, and the processor time. */
+   FILE has the bytes of Mixture.bytes of ../mixture/mixture.py. COMMANDS is how many commands a transaction has. With setup after
+   it only the vertices are made. Vertices, edges and entries are tables. A full collection is a recursive query. It prints a sum
+   over all answers, which is to be the sum of ../mixture/mixture.c, the bytes that SQLite holds, and the processor time. */
 #include <sqlite3.h>
 #include <stdint.h>
 #include <stdio.h>

@@ -1,10 +1,11 @@
 #!/usr/bin/env python3
 """run.py [VERTICES].. [--rounds N] [--helpers]
 
-What the store costs as it grows, through the library for C that bindings/build has made (store.c), beside a plain table of edges in C
-(table.c). It prints a table with a row for each number of vertices: 10,000, 100,000, 1,000,000, 10,000,000 and 16,000,000 unless others
-are given. The figures are medians of three rounds, in which the two programs take turns. The peak is the most that was resident, by
-what was resident after the creates. It prints the load of the machine before and after. 16,000,000 vertices take 4 GB.
+The cost of the store as it grows, through the library for C that bindings/build has made (store.c). Beside it comes a plain table of
+edges in C (table.c). It prints a table with a row for each number of vertices. The numbers are 10,000, 100,000, 1,000,000, 10,000,000
+and 16,000,000 unless others are given. The figures are medians of three rounds, in which the two programs take turns. The peak is the
+most memory that was resident, divided by the resident memory after the creates. It prints the load of the machine before and after.
+16,000,000 vertices take 4 GB.
 
 With --helpers it prints in place of this how long full collections take by one thread and by four, by the clock. It builds the program
 beside it for this (main.rt.in), without proofs. It needs a C compiler and Linux, and asserts nothing."""

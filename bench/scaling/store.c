@@ -1,10 +1,10 @@
-/* What a store costs as it grows, through the library for C: store VERTICES
+/* The cost of a store as it grows, through the library for C: store VERTICES
 
-   64 workers make the vertices in turn, each with one edge. The entries are given up after each 4,096 commands. It prints one line
-   for each part, with its name and a number. A create, a read and a label are in nanoseconds of processor time, a full collection in
-   nanoseconds for each vertex, and a nursery collection of 1,000 new vertices in milliseconds. Reads and labels are of 1,000,000
-   vertices that are drawn by chance. After the creates it prints the bytes of malloc for each vertex and what is resident in MB, and in
-   the end what was resident at most. bench/scaling/run.py builds and runs it. */
+   64 workers make the vertices in turn, each with one edge. The entries are given up after each 4,096 commands. It prints one
+   line for each part, with its name and a number. A create, a read and a label are in nanoseconds of processor time. A full
+   collection is in nanoseconds for each vertex, and a nursery collection of 1,000 new vertices in milliseconds. Reads and labels
+   are of 1,000,000 vertices that are drawn by chance. After the creates it prints the bytes of malloc for each vertex and the
+   resident memory in MB, and in the end the most that was resident. The script bench/scaling/run.py builds and runs it. */
 #include "kovshenul.h"
 #include <inttypes.h>
 #include <malloc.h>

@@ -1,8 +1,8 @@
-/* What a plain table of edges costs as it grows: table VERTICES
+/* The cost of a plain table of edges as it grows: table VERTICES
 
-   It is what a C programmer might write for the commands of store.c: an array with the value of each vertex, and one table of edges
-   with open addressing, of which at most 7 of 8 places are used. It has no journal and no collection, and no call can be refused. It
-   prints the same lines as store.c, as far as it has these parts. bench/scaling/run.py builds and runs it. */
+   A C programmer might write it for the commands of store.c. It has an array with the value of each vertex, and one table of
+   edges with open addressing. At most 7 of 8 places of the table are used. It has no journal and no collection, and no call can
+   be refused. It prints the same lines as store.c, as far as it has these parts. bench/scaling/run.py builds and runs it. */
 #include <malloc.h>
 #include <stdint.h>
 #include <stdio.h>

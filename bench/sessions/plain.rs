@@ -1,6 +1,6 @@
-//! The plain program that shared stores are measured against: a graph with a journal in a `Mutex`, written in plain Rust
-//! with no proof in mind. A vertex is a struct with an ordered map of its edges. Each thread keeps what it was answered.
-//! Each line of standard input is a number of threads. Its answer is a line as that of `main.rt.in`.
+//! The plain program with which shared stores are compared. It has a graph with a journal in a `Mutex`, and is written
+//! in plain Rust with no proof in mind. A vertex is a struct with an ordered map of its edges. Each thread keeps its
+//! answers. Each line of standard input is a number of threads. The program answers it by a line as `main.rt.in` does.
 //!
 //! Build: rustc -O --edition 2021 plain.rs
 

@@ -1,12 +1,13 @@
 #!/usr/bin/env python3
 """rates.py [--rounds N] [OURS PLAIN]
 
-Prints how many commands a second 1, 2, 4 and 8 sessions on threads have answered, beside a plain program with a journal
-in a mutex (plain.rs). Each session makes 33,333 vertices, grants a right over each to the next worker, and reads it. The
-two programs take turns, and a number is the median of N rounds (5 if it is left out). Beside the rate it prints how
-often a thread slept (a voluntary switch, as the kernel counts it) for each command, and the processor time of a command.
+Prints how many commands a second 1, 2, 4 and 8 sessions on threads have answered. Beside them comes a plain program with a
+journal in a mutex (plain.rs). Each session makes 33,333 vertices, grants a right over each to the next worker, and reads
+it. The two programs take turns, and a number is the median of N rounds (5 if it is left out). Beside the rate it prints
+the processor time of a command, and how often a thread slept for each command. A sleep is a voluntary switch, as the
+kernel counts it.
 
-OURS and PLAIN are the built programs: run.sh proves and builds them. Without them this script builds both, ours without
+OURS and PLAIN are the built programs, which run.sh proves and builds. Without them this script builds both, ours without
 its proof. It needs rustc and Linux."""
 import argparse
 import os

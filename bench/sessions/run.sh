@@ -1,7 +1,7 @@
 #!/bin/sh
 # run.sh: proves and builds the program beside it (`*.in`), with the crates that it needs, in a temporary folder. Then rates.py
-# measures it: how many commands a second 1, 2, 4 and 8 sessions on threads have answered, beside a plain program (plain.rs) with a
-# journal in a mutex. It needs rustc and python3.
+# measures how many commands a second 1, 2, 4 and 8 sessions on threads have answered. Beside them comes a plain program
+# (plain.rs) with a journal in a mutex. It needs rustc and python3.
 set -eu
 here=$(cd "$(dirname "$0")" && pwd)
 top=$(cd "$here/../.." && pwd)

@@ -1,7 +1,7 @@
 #!/bin/sh
-# run.sh: a race of 1,000,000 calls. Eight clients on threads ask 125,000 times each: seven of them for a vertex, with a share of
-# 40,000, and the eighth keeps below its own. It builds and runs the program beside it (`main.rt.in`), which isn't proved, with the
-# crates that it needs, in a temporary folder, and tells what came of each client's calls.
+# run.sh: a race of 1,000,000 calls. Eight clients on threads ask 125,000 times each. Seven of them ask for a vertex, with a share
+# of 40,000, and the eighth keeps below its own share. It builds and runs the program beside it (`main.rt.in`), which isn't proved,
+# with the crates that it needs, in a temporary folder. It prints the outcome of each client's calls.
 set -eu
 here=$(cd "$(dirname "$0")" && pwd)
 top=$(cd "$here/../.." && pwd)

@@ -1,9 +1,10 @@
 #!/usr/bin/env python3
-"""run.py [ROUNDS]: what eight sessions hold that spawn 1,600 subjects in each round, in 625 rounds unless it is given.
+"""run.py [ROUNDS]: the memory of eight sessions that spawn 1,600 subjects in each round, in 625 rounds unless it is given.
 
-It builds the program beside it (`main.rt.in`), unproved, with the crates that it needs, and prints what it has after the seventh round, some
-10,000 subjects, and after the last: the bytes that it holds, as the counter of tests/held tells them, and what is resident, with glibc's
-malloc as it is, and as docs/LASTING.md advises, with one arena and both thresholds at 64 KiB. It needs Linux and a C compiler."""
+It builds the program beside it (`main.rt.in`), unproved, with the crates that it needs. It prints the memory after the seventh round, which
+is after some 10,000 subjects, and after the last round. The figures are the bytes that the program holds, by the counter of tests/held, and
+the resident memory. They are with glibc's malloc as it is, and with one arena and both thresholds at 64 KiB, as docs/LASTING.md advises. It
+needs Linux and a C compiler."""
 import argparse
 import os
 import re

@@ -1,13 +1,13 @@
 """A small actor system.
 
 An actor's mailbox is a log, and its address is the log's vertex. An edge to the vertex is the right to send to it. Actors send numbers, and
-addresses that they hold. An actor can't make an address up: the store denies what its edges don't allow.
+addresses that they hold. An actor can't make an address up, because the store denies what its edges don't allow.
 
 The system is the store's only worker, and acts for the actors. It holds an address while it runs the actor, while messages wait there, or
 for as long as the host asked it to (`keep`). It holds no other, so an idle actor lives as long as another actor that lives holds its address.
 A full collection removes all others, rings of actors too.
 
-An actor never loses an address that it was sent, because no rule takes an edge from a vertex, and only a worker gives its own up. An actor
+An actor never loses an address that it was sent. No rule takes an edge from a vertex, and only a worker gives up its own edges. An actor
 that serves many others for long starts a new actor in its place now and then.
 """
 from collections import deque
@@ -43,7 +43,7 @@ class Actor:
 
 
 class System:
-    """The actors of a store, and the queue of those that have mail."""
+    """The actors of a store, and the queue of the actors that have mail."""
 
     def __init__(self, store):
         self.store, self.actors, self.queue, self.running = store, {}, deque(), None
@@ -59,7 +59,8 @@ class System:
         return Address(name)
 
     def send(self, to, message):
-        """Sends a number or an address. Denied if the actor that runs doesn't hold the address, or the one that it sends."""
+        """Sends a number or an address. Denied if the actor that runs doesn't hold the address of the message, or the address that it
+        sends."""
         self.borrow(to.name)
         mailbox = self.actors[to.name]
         try:
@@ -72,7 +73,7 @@ class System:
             self.let_go(to.name)
 
     def number_of(self, to, message):
-        """The number that says the message. The one who gets an address gets the edge with it."""
+        """The number that says the message. An actor that gets an address gets the edge with it."""
         if not isinstance(message, Address):
             return message
         if message.name != to:

@@ -10,7 +10,7 @@ static const tg_value cells[2] = { { TG_CELL, 0, 0 }, { TG_CELL, 0, 0 } };
 static const tg_edge edge = { HOST, GUEST, TG_GRANT };
 static const tg_limits limits = TG_LIMITS_INIT;
 
-/* An entry, with room for what this host's commands show. */
+/* An entry, with room for the numbers and edges that this host's commands show. */
 struct kept {
     tg_record entry;
     uint64_t numbers[NUMBERS];

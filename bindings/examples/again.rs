@@ -1,5 +1,5 @@
 //! A host whose process ends. It keeps each entry before it hands on the reply, and another process goes on from the entries that
-//! were kept. Here both are one program, and the entries are kept in memory: `entries.rs` writes them as text.
+//! were kept. Here both are one program, and the entries are kept in memory. `entries.rs` writes them as text.
 use kovshenul::{Deed, Edge, Entry, Error, Limits, Rights, Stopped, Store, Value};
 
 const HOST: u64 = 0;

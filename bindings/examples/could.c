@@ -5,7 +5,7 @@
 
 enum { HOST, PLUGIN };
 
-/* Prints what comes of the right over the folder. */
+/* Prints whether the right over the folder comes about. */
 static tg_status ask(tg_store *store, uint64_t folder, uint64_t guarded, uint64_t right) {
     const uint64_t silent = HOST;
     const tg_edge supposed = { PLUGIN, folder, right };

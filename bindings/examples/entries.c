@@ -1,5 +1,5 @@
-/* A host that writes its journal out as tgaudit reads it: the opening, a line for each entry, and how many these are. Build it with:
-   cc entries.c -lkovshenul */
+/* A host that writes its journal out as tgaudit reads it. The text has the opening, a line for each entry, and how many these
+   are. Build it with: cc entries.c -lkovshenul */
 #include "kovshenul.h"
 #include <stdio.h>
 #include <stdlib.h>

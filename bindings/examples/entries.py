@@ -1,4 +1,5 @@
-"""A host that writes its journal out as tgaudit reads it: the opening, a line for each entry, and how many these are."""
+"""A host that writes its journal out as tgaudit reads it. The text has the opening, a line for each entry, and how many
+these are."""
 from kovshenul import APPEND, GRANT, INSPECT, READ, TAKE, WRITE, Cell, Denied, Edge, Log, Max, Store, Sum, end_text, opening_text
 
 HOST, GUEST = range(2)

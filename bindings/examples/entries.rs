@@ -1,4 +1,5 @@
-//! A host that writes its journal out as tgaudit reads it: the opening, a line for each entry, and how many these are.
+//! A host that writes its journal out as tgaudit reads it. The text has the opening, a line for each entry, and how
+//! many these are.
 use kovshenul::{end_text, opening_text, Edge, Error, Limits, Rights, Store, Value};
 
 const HOST: u64 = 0;

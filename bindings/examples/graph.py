@@ -9,8 +9,8 @@ NAMES = ("alice", "bob", "carol")
 
 
 def play(store):
-    """Alice keeps a document and a diary. Bob may read the one and add to the other, which he can't read; Carol takes from him
-    the right to read the document."""
+    """Alice keeps a document and a diary. Bob may read the document and add to the diary, which he can't read. Carol takes from
+    him the right to read the document."""
     document = store.create(ALICE, READ | WRITE, Sum(40))
     diary = store.create(ALICE, READ | APPEND, Log(3))
     store.grant(ALICE, BOB, document, READ)
@@ -27,7 +27,7 @@ def play(store):
 
 
 def lines_of(store, objects):
-    """The graph, line by line. Each worker's row is listed, which the journal tells."""
+    """The graph, line by line. Each worker's row is listed, and the journal shows it."""
     yield "digraph kovshenul {"
     for worker in range(len(NAMES)):
         yield f'    v{worker} [shape=box, label="{store.named(worker)}"];'

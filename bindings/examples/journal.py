@@ -1,7 +1,7 @@
 """Plays a small story, and writes its journal as a script of the store's own: journal.py | viewer/page --workers 3 --stock sl >run.html
 
-Each create takes a box of the stock. A box begins with 0, and a log of it keeps four numbers: of objects that begin so, the page
-has the journal's own replies.
+Each create takes a box of the stock. A box begins with 0, and a log of it keeps four numbers. So the page has the journal's own replies
+if objects begin so.
 """
 from kovshenul import APPEND, GRANT, READ, TAKE, WRITE, Denied, Log, Store, Sum
 from kovshenul.journal import Create

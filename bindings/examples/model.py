@@ -6,7 +6,7 @@ OPENING = [Cell(0), Cell(0)], [(0, 1, GRANT)]
 
 
 def host(store):
-    """What the host does with a store, and what its client is answered."""
+    """The commands of the host to a store, and the answers to its client."""
     note = store.create(0, READ | WRITE, Log(3))
     store.write(0, note, 7)
     store.grant(0, 1, note, READ)

@@ -37,8 +37,8 @@ static tg_status hand_over(tg_store *store, tg_auditor *auditor) {
     return status;
 }
 
-/* Has a store and an auditor go on from the snapshot of what the auditor has come to, as another process does that has the text of the
-   snapshot alone. */
+/* Has a store and an auditor go on from the snapshot of the auditor at its place. Another process does the same with the text of
+   the snapshot alone. */
 static tg_status go_on(tg_store *store, tg_auditor *auditor, const tg_limits *limits) {
     char text[SNAPSHOT];
     uint64_t length, line;
@@ -61,7 +61,7 @@ static tg_status go_on(tg_store *store, tg_auditor *auditor, const tg_limits *li
     return status;
 }
 
-/* The host makes a sum and lets the guest add to it. The guest adds, and once writes to what isn't its own. */
+/* The host makes a sum and lets the guest add to it. The guest adds, and once writes to an object that isn't its own. */
 static tg_status command(tg_store *store, uint64_t number) {
     static const tg_value sum = { TG_SUM, 0, 0 };
     static uint64_t name;

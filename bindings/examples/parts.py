@@ -27,7 +27,7 @@ def gone_on(store, auditor):
 
 
 def add(store, total, number):
-    """The guest adds to the host's sum, and once writes to what isn't its own."""
+    """The guest adds to the host's sum, and once writes to an object that isn't its own."""
     try:
         store.write(GUEST, HOST if number == 6 else total, number)
     except Denied:

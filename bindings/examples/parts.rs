@@ -25,7 +25,7 @@ fn gone_on(store: Store, auditor: Auditor) -> Result<(Store, Auditor), Box<dyn s
     Ok((Store::reopen(&snapshot, &Limits::default())?, Auditor::reopen(&snapshot)?))
 }
 
-/// The guest adds to the host's sum, and once writes to what isn't its own.
+/// The guest adds to the host's sum, and once writes to an object that isn't its own.
 fn add(store: &mut Store, sum: u64, number: u64) -> Result<(), Error> {
     let target = if number == 6 { HOST } else { sum };
     match store.write(GUEST, target, number) {

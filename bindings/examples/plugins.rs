@@ -1,8 +1,8 @@
-//! A host of plug-ins. Each plug-in is a worker that the host spawns and grants rights to. It has no more than those: what it isn't
-//! allowed is denied. When it is unloaded it leaves, with all that it held, and nothing is answered to its name any more.
+//! A host of plug-ins. Each plug-in is a worker that the host spawns and grants rights to. It has no other rights, so all else is
+//! denied. When it is unloaded it leaves, with all that it held, and nothing is answered to its name any more.
 //!
-//! Before the host hands a right on it asks whether a document that it guards would stay out of reach: not only now, but whatever
-//! the plug-ins do together while the host does nothing.
+//! Before the host hands a right on, it asks whether a document that it guards would stay out of reach. The question covers
+//! whatever the plug-ins do together while the host does nothing.
 use kovshenul::{Chance, Edge, Error, Kind, Limits, Rights, Store, Value};
 
 const HOST: u64 = 0;
@@ -20,7 +20,7 @@ struct Loaded<'a> {
     worker: u64,
 }
 
-/// What the host has over a plug-in's worker.
+/// The rights that the host has over a plug-in's worker.
 fn over_plugins() -> Rights {
     Rights::GRANT | Rights::INSPECT
 }
@@ -75,7 +75,7 @@ fn load<'a>(store: &mut Store, plugin: &'a Plugin, document: u64) -> Result<Load
     Ok(Loaded { plugin, worker })
 }
 
-/// Runs a plug-in, and says what came of it. What isn't served ends the plug-in's work, and the host goes on.
+/// Runs a plug-in, and says what came of it. A call that isn't served ends the plug-in's work, and the host goes on.
 fn run(store: &mut Store, loaded: &Loaded<'_>, document: u64) -> Result<(), Error> {
     let name = loaded.plugin.name;
     match (loaded.plugin.run)(store, loaded.worker, document) {

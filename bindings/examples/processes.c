@@ -1,9 +1,9 @@
-/* A table of processes. The system spawns a worker for each process and introduces it to the others; a process opens
-   objects, hands handles to them on, gives them up, and ends. What an object's name stands for is in the host's own
-   table.
+/* A table of processes. The system spawns a worker for each process and introduces it to the others. A process opens
+   objects, hands handles to them on, gives them up, and ends. The host's own table says what an object's name means.
 
-   Who holds what is asked by tg_label, of which the journal gets no entry: a list would keep the whole row in it each
-   time. After a collection tg_names says which objects there still are; what was kept beside the others is freed.
+   The host asks who holds which rights by tg_label, for which the journal gets no entry. A list would keep the whole
+   row in it each time. After a collection tg_names says which objects there still are. The memory that was kept beside
+   the others is freed.
 
    Whoever has an edge to a process that merely retired keeps all that it held. So one that ends leaves. It gives up all
    its handles and retires, in one call. The others know it still, and have nothing by it.
@@ -16,7 +16,7 @@
 
 enum { SYSTEM = 0, SLOTS = 8, OBJECTS = 1000, ROUNDS = 4000, NAMES = 4096, NONE = 0 };
 
-/* The worker of each slot's process, or none: the system itself has no slot. */
+/* The worker of each slot's process, or none. The system itself has no slot. */
 static uint64_t processes[SLOTS];
 /* What the host keeps beside each object: here its size, and 0 where there is no object. */
 static unsigned sizes[NAMES];
@@ -31,7 +31,7 @@ static uint32_t next_random(uint32_t below) {
     return (uint32_t)(state >> 33) % below;
 }
 
-/* Whether it was done. What is denied is counted, and anything else ends the program. */
+/* Whether it was done. Denials are counted, and any other refusal ends the program. */
 static bool done(tg_status status) {
     if (status == TG_DENIED)
         denied++;
@@ -63,7 +63,7 @@ static void start_process(uint64_t *slot) {
     started++;
 }
 
-/* The process of a slot ends, willing or not. What it alone reached goes with the next full collection. */
+/* The process of a slot ends, willing or not. The vertices that it alone reached go with the next full collection. */
 static void end_process(uint64_t *slot) {
     uint64_t count;
     done(tg_leave(&store, *slot, &count));
@@ -124,7 +124,7 @@ static void collect(void) {
         }
 }
 
-/* What a process does next, and now and then its end. */
+/* The next step of a process, and now and then its end. */
 static void step(uint64_t *slot) {
     switch (next_random(5)) {
     case 0: open_object(*slot); break;

@@ -1,4 +1,4 @@
-"""What hosts do with a store, one function for each recipe of docs/RECIPES.md, and a run of them."""
+"""The recipes of docs/RECIPES.md for hosts of a store, a function each, and a run of them."""
 from kovshenul import FULL, GRANT, INSPECT, READ, TAKE, WRITE, Auditor, Cell, Denied, Refused, Rights, Store, outlook
 
 HOST = 0

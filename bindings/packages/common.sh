@@ -1,4 +1,4 @@
-# What bindings/build, check, install and release share. The one that reads this has its own folder in 'here'.
+# The parts that bindings/build, check, install and release share. A script that reads this has its own folder in 'here'.
 
 top=$(dirname "$here")
 out=$here/out
@@ -55,7 +55,7 @@ needs() {
 
 # ---- sums
 
-# The sum of what comes in.
+# The sum of standard input.
 sum() {
     sha256sum | cut -d ' ' -f 1
 }
@@ -70,8 +70,8 @@ files_of_crate() {
     find "$1" -path "$1/out" -prune -o -type f -print
 }
 
-# A sum over what the proved archive is made from, or a program if one is named: the kit, and of its crate and each crate
-# below it the line of crates.txt and the text.
+# A sum over the files from which the proved archive is made, or a program if it is named. They are the kit, and the line of
+# crates.txt and the text of its crate and of each crate below it.
 sum_of_text() {
     (
         set -o pipefail
@@ -87,8 +87,8 @@ sum_of_text() {
     )
 }
 
-# The sum of the text of which the archive was proved, which bindings/build leaves beside it; none where the archive is
-# another one.
+# The sum of the text of which the archive was proved, which bindings/build leaves beside it. There is none if the archive has
+# changed.
 sum_of_proved() {
     text=none
     if test -e "$archive" && test -e "$archive.of"; then
@@ -103,8 +103,8 @@ program_at() {
     echo "$top/crates/$1/out/$1"
 }
 
-# Whether 'bindings/build programs' left the program, as it was proved of the texts that are there now. It keeps a line for
-# each: its name, the sum of its texts and its own.
+# Whether 'bindings/build programs' left the program, as it was proved of the texts that are there now. It keeps a line for each,
+# with its name, the sum of its texts and its own sum.
 is_proved_program() {
     test -x "$(program_at "$1")" && test -e "$out/programs" &&
         grep -qxF "$1 $(sum_of_text "$1") $(sum <"$(program_at "$1")")" "$out/programs"
@@ -125,8 +125,8 @@ sum_of_library() {
     fi
 }
 
-# Whether the library in 'out' fits the header, the modules and the crate which lie here, and with the sum of a text,
-# whether it is of that.
+# Whether the library in 'out' fits the header, the modules and the crate here. With the sum of a text it also says whether the
+# library is of this text.
 is_library_of() {
     test -e "$out/built" || return 1
     read -r of_c of_text of_library <"$out/built"
@@ -134,8 +134,7 @@ is_library_of() {
     test $# = 0 || test "$of_text" = "$1"
 }
 
-# Ends the run where there is no library that fits the header, the modules and the crate which lie here, or an extension module that
-# doesn't fit.
+# Ends the run if there is no library that fits the header, the modules and the crate here, or if an extension module doesn't fit.
 wants_library() {
     test -e "$out/libkovshenul.a" || stop "nothing is built: no $out/libkovshenul.a. Run bindings/build first"
     is_library_of ||
@@ -146,7 +145,7 @@ wants_library() {
 
 # ---- Python's extension module
 
-# The folder with the headers of Python, or nothing where they aren't there, or are those of a Python before 3.11.
+# The folder with the headers of Python. There is nothing if they aren't there, or if they are of a Python before 3.11.
 headers_of_python() {
     python3 - <<'TEXT'
 import pathlib, sys, sysconfig
@@ -181,13 +180,13 @@ put() {
     install -m 644 "$1" "$2/"
 }
 
-# Puts a file of bindings/packages into a folder, with what it leaves open filled in. The third word is the prefix.
+# Puts a file of bindings/packages into a folder, with its open places filled in. The third word is the prefix.
 fill() {
     escaped=$(printf '%s' "${3-}" | sed 's/[\\|&]/\\&/g')
     sed "s|@PREFIX@|$escaped|; s|@SHARED@|$shared|; s|@VERSION@|$version|" "$here/packages/$1.in" >"$2/$1"
 }
 
-# What C needs, below a folder. The second word is what pkg-config reads as the prefix.
+# The files that C needs, below a folder. The second word is the prefix that pkg-config reads.
 put_for_c() {
     cmake=$1/lib/cmake/kovshenul
     mkdir -p "$1/lib/pkgconfig" "$cmake"
@@ -201,7 +200,7 @@ put_for_c() {
     put_pages "$1/share/man"
 }
 
-# The programs that were proved, and the one that makes pages of runs.
+# The programs that were proved, and the program that makes pages of runs.
 put_programs() {
     for program in $programs; do
         ! is_proved_program "$program" || install -D -m 755 "$(program_at "$program")" "$1/bin/$program"

@@ -1,9 +1,8 @@
 """Makes the wheel, with the shared object and the extension module that bindings/build has made: python3 backend.py FOLDER [NOTE ..]
 
-pip calls build_wheel too, for 'pip wheel' and 'pip install' of this folder. The library is bindings/out's, or the one
-that KOVSHENUL_LIBRARY names. The same files make the same bytes: their times are SOURCE_DATE_EPOCH, or that of 1980
-where it isn't set. Each NOTE is a file that goes beside the wheel's metadata, and with notes goes SHA256SUMS, of all
-files before it.
+pip calls build_wheel too, for 'pip wheel' and 'pip install' of this folder. The library is bindings/out's, or the library that
+KOVSHENUL_LIBRARY names. The same files make the same bytes. Their times are SOURCE_DATE_EPOCH, or the time of 1980 if it isn't set.
+Each NOTE is a file that goes beside the wheel's metadata, and with notes goes SHA256SUMS, of all files before it.
 """
 import base64
 import hashlib
@@ -18,12 +17,12 @@ HERE = Path(__file__).parent.resolve()
 OUT = HERE.parent / "out"
 PROJECT = (HERE / "pyproject.toml").read_text()
 
-# No wheel's name can tell of a lesser glibc.
+# No wheel's name can have a lesser glibc.
 LEAST_GLIBC = (2, 5)
 
 
 def told(name):
-    """What the project's page of settings says."""
+    """The project's page of settings."""
     return re.search(rf'(?m)^{name} = "(.*)"$', PROJECT).group(1)
 
 
@@ -47,7 +46,7 @@ def extensions():
 
 
 def least_glibc():
-    """The least glibc that has all that the shared object and the extension module want, as their tables of names say."""
+    """The least glibc that has all names that the shared object and the extension module need, by their tables of names."""
     tables = b"".join(path.read_bytes() for path in [library(), *extensions()])
     wanted = re.findall(rb"(?<=\0)GLIBC_(\d+)\.(\d+)(?:\.\d+)?(?=\0)", tables)
     return max([LEAST_GLIBC, *((int(major), int(minor)) for major, minor in wanted)])

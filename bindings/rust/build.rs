@@ -1,6 +1,6 @@
-//! Finds the library: in the folder that KOVSHENUL_LIB_DIR names, else in the crate's own `lib`, else in that of the
-//! prefix in which the crate is installed, else by pkg-config. Where it is nowhere, the crate can be checked and
-//! documented, and a warning says what is missing.
+//! Finds the library. It looks in the folder that KOVSHENUL_LIB_DIR names, and then in the crate's own `lib`. Then
+//! it looks in the `lib` of the prefix in which the crate is installed, and at last it asks pkg-config. If the
+//! library is nowhere, the crate can still be checked and documented, and a warning says what is missing.
 use std::env;
 use std::path::{Path, PathBuf};
 use std::process::{exit, Command};

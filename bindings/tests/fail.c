@@ -1,8 +1,8 @@
 /* Refuses each allocation of a run in turn. It is linked with --wrap=malloc,--wrap=realloc,--wrap=free.
 
-   A call whose allocation was refused answers TG_OUT_OF_MEMORY, and passes when it is made again; but where the refused
-   memory was room that a vector would only have liked to have, the call is served all the same. Both are counted. And once the
-   store is closed, each block was given back. */
+   A call whose allocation was refused answers TG_OUT_OF_MEMORY, and passes when it is made again. If a vector only asked for the
+   refused memory to have more room, the call is served all the same. Both are counted. And once the store is closed, each block
+   was given back. */
 #include "kovshenul.h"
 #include <stdio.h>
 #include <stdlib.h>

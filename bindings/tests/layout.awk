@@ -1,5 +1,5 @@
-# Writes a C file that compiles exactly where kovshenul.h fits the library's text: each struct of numbers has the same
-# fields at the same offsets, each export the same parameters, each constant the number that the contracts give it.
+# Writes a C file that compiles exactly if kovshenul.h fits the library's text. Each struct of numbers has the same fields at the same
+# offsets. Each export has the same parameters, and each constant has the number that the contracts give it.
 #
 # It reads the exports in crates/tg_exports/src, and the structs of numbers and the places in crates/tg_c/src. After them it reads Forms.antt,
 # Records.antt, Could.antt and View.antt of crates/tg_c/specs, then crates/tg_model/specs/Commands.antt and crates/tg_rights/specs/RightSet.antt.
@@ -9,7 +9,7 @@ function same(is, wanted) {
     checks++
 }
 
-# The C type of a Rattle type; nothing for what takes no bytes, or isn't known here.
+# The C type of a Rattle type, or nothing for a type that takes no bytes, or that isn't known here.
 function type_of(word) {
     if (word in types) return types[word]
     if (word ~ /^&mut \[.*\]$/) return types[substr(word, 7, length(word) - 7)] " *, size_t"
@@ -197,7 +197,7 @@ sum {
     same("TG_REPLY_" capitals(name), number_after("(= answered |kind = )", $0))
 }
 
-# of an answer's kind and of what a view tells, each by its own name in capitals
+# of an answer's kind and of a view's answer, each by its own name in capitals
 /^(outlook_kind|kind_in|kind_seen) \(?[A-Z]/ {
     name = $2
     sub(/^\(/, "", name)

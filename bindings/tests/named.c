@@ -7,7 +7,7 @@
 
 enum { HOST, PLUGIN, REPORT, LOG, ROOM = 200 };
 
-/* The host's names. It counts how often it is asked, and fails from then on where it is told to. */
+/* The host's names. It counts how often it is asked, and fails from a given count on. */
 struct host {
     unsigned asked, fails_after;
     char text[ROOM];

@@ -1,13 +1,15 @@
-/* random SEED COMMANDS FOLDER: random commands by eight threads, each on a store of its own, written as scripts with the replies beside
-   them: FOLDER/0.script and FOLDER/0.replies are those of the first.
+/* random SEED COMMANDS FOLDER: random commands by eight threads, each on a store of its own. They are written as scripts with the
+   replies beside them. FOLDER/0.script and FOLDER/0.replies are the files of the first thread.
 
-   A script is one that the plain program bench/reference.rs takes, whose replies must be the same. Some stores have tight limits, and of some requests for memory are
-   refused. A call that is refused for either changes nothing, so the script leaves it out. The stores move from place to place, and what a call may not write to is looked
-   at. Collections of the nurseries run in between, of which the script says nothing. What could come about is asked now and then, of the store and of a view, and again
-   after a collection; each question is written with what was told to FOLDER/0.questions, and is asked of the plain graph too. The journal is written as a script with the
-   replies that it has, FOLDER/0.journal.script and FOLDER/0.journal.replies: at the end, but of each second store part after part, as an auditor has replayed entries and
-   they are given up. Another store goes on from each entry that is written, and has to have its reply. All is audited, and each block of memory has to have been given
-   back. It is linked with --wrap=malloc,--wrap=realloc,--wrap=free. */
+   A script is one that the plain program bench/reference.rs takes, whose replies must be the same. Some stores have tight limits,
+   and of some requests for memory are refused. A call that is refused for either changes nothing, so the script leaves it out.
+   The stores move from place to place, and what a call may not write to is looked at. Collections of the nurseries run in
+   between, of which the script says nothing. Questions about the future are asked now and then, of the store and of a view, and
+   again after a collection. Each question is written with its answer to FOLDER/0.questions, and is asked of the plain graph too.
+   The journal is written as a script with its replies, to FOLDER/0.journal.script and FOLDER/0.journal.replies. It is written at
+   the end. The journal of each second store is written part after part, as an auditor replays entries and they are given up.
+   Another store goes on from each entry that is written, and has to have its reply. All is audited, and each block of memory has
+   to have been given back. It is linked with --wrap=malloc,--wrap=realloc,--wrap=free. */
 #include "kovshenul.h"
 #include <inttypes.h>
 #include <pthread.h>
@@ -588,7 +590,8 @@ static void retire(struct run *run) {
     run->active = kept;
 }
 
-/* The names of the workers, which are in no script: those that were spawned and haven't retired, as many as there is room for. */
+/* The names of the workers, which are in no script. They are workers that were spawned and haven't retired, as many as there is
+   room for. */
 static void look_at_workers(struct run *run) {
     uint64_t names[MOST_WORKERS], count = UNTOUCHED, room = below(run, MOST_WORKERS + 1);
     memset(names, 0xbb, sizeof names);
@@ -655,7 +658,7 @@ static uint64_t answer_to(struct run *run, const struct question *it) {
     return kind;
 }
 
-/* What a view tells of it, or nothing where memory was refused. */
+/* The answer of a view to it, or nothing if memory was refused. */
 static uint64_t chance_of(struct run *run, const struct question *it) {
     tg_view view = TG_VIEW_INIT;
     uint64_t kind = UNTOUCHED;
@@ -678,7 +681,7 @@ static void put_question(struct run *run, const struct question *it, uint64_t ki
     fputs("\n", run->questions);
 }
 
-/* A question is asked, of a view too, and again after a collection of either kind: the answers are the same. */
+/* A question is asked, of a view too, and again after a collection of either kind. The answers are the same. */
 static void ask_some(struct run *run) {
     struct question it = draw(run);
     say(run, "asks");

@@ -72,7 +72,7 @@ static void closed(void) {
     WANT(is_untouched() && !store.is_open && store.handle.at == NULL);
 }
 
-/* A closed auditor, and an open one that is fed by a closed store: nothing happens. */
+/* A closed auditor, and an open auditor that is fed by a closed store. Nothing happens. */
 static void closed_auditors(void) {
     tg_store store = TG_STORE_INIT;
     tg_auditor auditor = TG_AUDITOR_INIT;
@@ -163,7 +163,7 @@ static void texts_of_denials(void) {
     is_told((tg_denial){ 7, 3, 0, 0, 0 }, "unknown rule: unknown cause");
 }
 
-/* Each set of rights has letters, which are read back. No other text is read: each of three letters is looked at. */
+/* Each set of rights has letters, which are read back. No other text is read, because each of three letters is looked at. */
 static void letters_of_rights(void) {
     static const char letters[] = "rwtgaluvRx ";
     const size_t count = sizeof letters;    /* with the 0, so that shorter ones are among them */
@@ -187,12 +187,12 @@ static void letters_of_rights(void) {
         } else
             WANT(tg_rights_read(said, &rights) == TG_BAD_RIGHTS && rights == UNTOUCHED);
     }
-    /* Of one letter, which any of 12 may follow after the 0; of two, which one may follow; of three. */
+    /* Texts of one letter, which any of 12 may follow after the 0, of two letters, which one may follow, and of three. */
     WANT(read == 8 * count + 28 + 56);
     WANT(tg_rights_read("rwtgaluvv", &rights) == TG_BAD_RIGHTS && tg_rights_read("", &rights) == TG_BAD_RIGHTS);
 }
 
-/* A denial that isn't needed may be NULL, and the journal has it all the same; limits to start with are some. */
+/* A denial that isn't needed may be NULL, and the journal has it all the same. The limits to start with are accepted. */
 static void unwanted_denials(void) {
     static const tg_limits start = TG_LIMITS_INIT;
     tg_store store = TG_STORE_INIT;
@@ -261,7 +261,7 @@ static void greatest_limits(void) {
     WANT(tg_close(&store) == TG_DONE && tg_auditor_close(&auditor) == TG_DONE);
 }
 
-/* Where there are several faults, the first is told: each of these has the next one too. */
+/* If there are several faults, the first is returned. Each of these calls has the next fault too. */
 static void first_faults(void) {
     const tg_value bad[2] = { { TG_CELL, 0, 0 }, { 4, 0, 0 } };
     const tg_limits none = { 0, 0, 0 };
@@ -320,8 +320,8 @@ static void rules(tg_store *store) {
     WANT(tg_entries(store, &number) == TG_DONE && number == 9);
 }
 
-/* What a worker holds, which is asked without an entry: nothing over itself, over what was never made, or over a worker that only
-   the other one holds rights over. */
+/* The rights that a worker holds are asked without an entry. It holds nothing over itself, over a vertex that was never made, or
+   over a worker that only the other worker holds rights over. */
 static void labels(tg_store *store) {
     uint64_t rights, entries, count;
     WANT(tg_entries(store, &entries) == TG_DONE);
@@ -350,8 +350,8 @@ static void laws(tg_store *store) {
     WANT(tg_read(store, 0, most, numbers, 64, &count, &why) == TG_DONE && numbers[0] == 5);
 }
 
-/* The heap has the vertices below this number, each of which is named once, in any order. After the names the room is as it was; with
-   too little room as many are named as fit, and all are counted. */
+/* The heap has the vertices below this number, each of which is named once, in any order. After the names the room is as it was.
+   With too little room as many are named as fit, and all are counted. */
 static void names_below(tg_store *store, uint64_t vertices) {
     uint64_t seen = 0, count;
     numbers[vertices] = UNTOUCHED;
@@ -403,8 +403,8 @@ static int is_denied(tg_status status, uint32_t rule, uint32_t cause, uint64_t f
     return status == TG_DENIED && why.rule == rule && why.cause == cause && why.from == from && why.to == to && why.rights == rights;
 }
 
-/* Appends: done, and denied for each of the causes. A worker is never told the law of what it has no right to append to, and a write
-   to a log wants its own right. */
+/* Appends: done, and denied for each of the causes. A worker never learns the law of a vertex to which it has no right to append.
+   A write to a log needs its own right. */
 static void appends(tg_store *store, uint64_t log, uint64_t other) {
     uint64_t count;
     for (uint64_t i = 0; i < 3; i++)
@@ -470,7 +470,7 @@ static void all_rights(void) {
     WANT(tg_close(&store) == TG_DONE);
 }
 
-/* The workers are these, by rising name. After them the room is as it was; with too little room as many are named as fit. */
+/* The workers are these, by rising name. After them the room is as it was. With too little room as many are named as fit. */
 static void workers_are(tg_store *store, const uint64_t *wanted, uint64_t active) {
     uint64_t room[65], count, entries, after;
     memset(room, UNTOUCHED, sizeof room);
@@ -483,8 +483,8 @@ static void workers_are(tg_store *store, const uint64_t *wanted, uint64_t active
     WANT(tg_entries(store, &after) == TG_DONE && after == entries);
 }
 
-/* A worker is spawned, is handed what it may read, and retires: then its name asks for nothing more, and what it holds stays while it is
-   reached. It is gone when its spawner gives it up, and its name isn't given again. */
+/* A worker is spawned, is handed a right to read, and retires. Then its name asks for nothing more, and its rights stay while it
+   is reached. It is gone when its spawner gives it up, and its name isn't given again. */
 static void a_worker_comes_and_goes(void) {
     static const uint64_t both[3] = { 0, 1, 3 }, left[2] = { 0, 3 }, last[2] = { 3, 5 };
     tg_store store = TG_STORE_INIT;
@@ -513,7 +513,8 @@ static void a_worker_comes_and_goes(void) {
     WANT(tg_close(&store) == TG_DONE);
 }
 
-/* Who leaves holds nothing any more, and each edge that it gave up is an entry. Who holds a right is told without one. */
+/* Who leaves holds nothing any more, and each edge that it gave up is an entry. The holders of a right are listed without an
+   entry. */
 static void a_worker_leaves(void) {
     tg_store store = TG_STORE_INIT;
     tg_record entry;
@@ -716,7 +717,7 @@ static void as_many_workers_as_may_be(void) {
     WANT(tg_close(&store) == TG_DONE);
 }
 
-/* The opening, and one entry of each deed and of each reply but TG_REPLY_WORKERS_FULL; what they are is in the journal below. */
+/* The opening, and one entry of each deed and of each reply but TG_REPLY_WORKERS_FULL. The journal below has their texts. */
 static void deeds(tg_store *store) {
     static const tg_edge joined[2] = { { 0, 1, TG_TAKE | TG_GRANT | TG_INSPECT }, { 1, 0, TG_GRANT } };
     static const tg_limits five = { 5, 8, 4 };
@@ -877,8 +878,8 @@ static void parts_audited(void) {
     WANT(tg_auditor_close(&auditor) == TG_DONE && tg_close(&store) == TG_DONE);
 }
 
-/* What stops an auditor: entries that were given up before it was fed, a store that hasn't made as many, and one of another opening,
-   where the first entry that shows it is bad. From then on it is fed no more. */
+/* Three cases stop an auditor. Entries were given up before it was fed, or a store hasn't made as many, or a store has another
+   opening. Then the first entry that shows it is bad. From then on it is fed no more. */
 static void auditors_stopped(void) {
     const tg_edge other[2] = { { 0, 1, TG_TAKE | TG_GRANT }, { 1, 0, TG_INSPECT } };
     tg_store store = TG_STORE_INIT, fresh = TG_STORE_INIT;
@@ -930,7 +931,7 @@ static void old_at_its_limit(void) {
     WANT(tg_close(&store) == TG_DONE);
 }
 
-/* Two full nurseries of one block each, of which next to nothing is reached any more: garbage takes no room in a collection. */
+/* Two full nurseries of one block each, of which next to nothing is reached any more. Garbage takes no room in a collection. */
 static void heap_of_garbage(void) {
     const tg_limits narrow = { 1000, 8, 1 };
     tg_store store = TG_STORE_INIT;
@@ -1058,7 +1059,7 @@ static void questions(void) {
     WANT(tg_close(&store) == TG_DONE && says(&answer, TG_UNREACHED, 0, 0) && tg_answer_close(&answer) == TG_DONE);
 }
 
-/* Of a name that over 65,536 others come before no turns are told, which would make all of these; of the next name some are. */
+/* A name after more than 65,536 other names has no turns, because they would make all of these. The next name has some. */
 static void far_names(void) {
     static const tg_limits lasting = { (uint64_t)1 << 48, 8, 4 };
     static const uint64_t both[2] = { 0, 1 };
@@ -1084,13 +1085,13 @@ static int is_unseen(tg_store *store, const uint64_t *silent, size_t count, tg_e
     return tg_view_open(store, silent, count, &supposed, 1, &view) == status && !view.is_open && view.handle.at == NULL;
 }
 
-/* Whether the view tells this of the question whether x could come to write y. */
+/* Whether the view answers this to the question whether x could come to write y. */
 static int sees(tg_view *view, uint64_t x, uint64_t y, uint64_t kind) {
     uint64_t told = UNTOUCHED;
     return tg_view_could(view, x, TG_WRITE, y, &told) == TG_DONE && told == kind;
 }
 
-/* Whether a question about these rights is refused, and nothing is told. */
+/* Whether a question about these rights is refused, and has no answer. */
 static int is_untold(tg_view *view, uint64_t rights) {
     uint64_t told = UNTOUCHED;
     return tg_view_could(view, 1, rights, 0, &told) == TG_BAD_RIGHTS && told == UNTOUCHED;
@@ -1114,7 +1115,7 @@ static void bad_views(tg_store *store) {
     WANT(is_unseen(store, host, 1, far, TG_BAD_EDGE));
 }
 
-/* A view tells of many questions, as of the moment when it was opened, and outlives its store. */
+/* A view answers many questions, as of the moment when it was opened, and outlives its store. */
 static void views(void) {
     static const tg_edge supposed[1] = { { 1, 0, TG_TAKE } };
     tg_store store = TG_STORE_INIT;
@@ -1258,7 +1259,7 @@ static void each_field_altered(uint64_t count) {
             ((unsigned char *)&it.entry)[byte] ^= 1;
             resume_upto(&store, at);
             tg_status status = tg_resume(&store, at, &it.entry, it.numbers, number_count, it.edges, edge_count);
-            /* Another vertex may be named by a deed that is answered in the same way: then the entry is legal. */
+            /* Another vertex may be named by a deed that is answered in the same way. Then the entry is legal. */
             WANT(status == TG_BAD_ENTRY || status == TG_BAD_VALUES || status == TG_DONE);
             WANT(status != TG_DONE || kept[at].entry.deed <= TG_DEED_INSPECT || kept[at].entry.deed >= TG_DEED_CREATE);
             bad += status == TG_BAD_ENTRY;
@@ -1307,7 +1308,7 @@ static void bad_counts(uint64_t count) {
     WANT(hand_in(&store, 0, &kept[0]) == TG_NOT_OPEN && !store.is_open && store.handle.at == NULL);
 }
 
-/* A store whose entries were kept goes on in another place, and is told what the first one is told. */
+/* A store whose entries were kept goes on in another place, and is asked the same as the first store. */
 static void resumed(void) {
     tg_store first = TG_STORE_INIT, second = TG_STORE_INIT;
     const tg_edge other[2] = { { 0, 1, TG_TAKE | TG_GRANT }, { 1, 0, TG_INSPECT } };

@@ -1,6 +1,6 @@
 /* A caretaker keeps a document. It hands the right to read it on to a visitor, who reads it, gives the right back and
    can't read it any more. Then the caretaker gives up its own rights, and the document is gone. Collections run in
-   between, and no reply tells of them. At the end the journal is audited.
+   between, and no reply shows them. At the end the journal is audited.
 
    Build it with: cc story.c -lkovshenul */
 #include "kovshenul.h"

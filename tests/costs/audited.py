@@ -1,13 +1,13 @@
 #!/usr/bin/env python3
 """audited.py [PROGRAM]
 
-Counts, under valgrind, what tgaudit takes for a create and a remove beside 1,000 vertices that stay and beside 50,000, and says whether
-the second is at most 1.5 times the first. No clause speaks of it: an audit that forgets what nobody reaches at each entry answers the
-same.
+Counts, under valgrind, the instructions of tgaudit for a create and a remove beside 1,000 vertices that stay and beside 50,000. It says
+whether the second count is at most 1.5 times the first. No clause speaks of this cost. An audit that forgets unreached vertices at each
+entry has the same answers.
 
-For each size two texts are audited, with and without these entries. Their difference over the number of times is what one of them
-costs. PROGRAM is crates/tgaudit/out/tgaudit unless it is given. Exit status 1 where the second costs more, or a run ended otherwise
-than well. Where valgrind isn't here, nothing is run."""
+For each size two texts are audited, with and without these entries. Their difference over the number of times is the cost of one of
+them. PROGRAM is crates/tgaudit/out/tgaudit unless it is given. Exit status 1 if the second costs more, or if a run didn't end well.
+Without valgrind nothing is run."""
 import sys
 from argparse import Namespace
 from pathlib import Path

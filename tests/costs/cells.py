@@ -1,22 +1,22 @@
 #!/usr/bin/env python3
 """cells.py [--write] [PROGRAM]
 
-Counts, under valgrind, what a full collection takes for a vertex, by one thread and by two helpers, and says whether that is at most
-1.02 times what is stored in tests/costs/cells.figures. No clause speaks of it: a call that the compiler no longer lays out where it
-is gives the same heap, and shows here alone. The heaps:
+Counts, under valgrind, the instructions of a full collection for a vertex, by one thread and by two helpers. It says whether they are
+at most 1.02 times the stored figure in tests/costs/cells.figures. No clause speaks of this cost. A call that the compiler no longer
+inlines gives the same heap, and only this script finds it. The heaps:
 
   rows     64 workers with 546 objects each
   tree     objects that name two others each, the children before their parents
   random   the same tree, whose places are in no order
 
-Two scripts are run, with 5 collections and with 25. Their difference over 20 times the number of vertices is what one takes. Where two
-helpers work, all that both do is counted, so it is a helper's walk that is seen, and not how they share it; since they wait for each
-other, each script is run three times then, and the least counts.
+Two scripts are run, with 5 collections and with 25. Their difference over 20 times the number of vertices is the cost of a vertex. If
+two helpers work, the instructions of both are counted. So the count shows a helper's walk, and not how the helpers share it. Because
+they wait for each other, each script is run three times then, and the least counts.
 
 --write makes the figures anew, beside the kit that built the program. Each kit has a compiler of its own, whose code differs a little.
 Therefore a program that another kit built may take up to 1.08 times the stored figure. A walk that lost its layout took 1.11 to 1.19
-times. PROGRAM is crates/tgstore/out/tgstore unless it is given. Exit status 1 if a collection takes more, or if a run ended otherwise
-than it is to. Where valgrind isn't here, nothing is run."""
+times. PROGRAM is crates/tgstore/out/tgstore unless it is given. Exit status 1 if a collection takes more, or if a run didn't end as it
+has to. Without valgrind nothing is run."""
 import sys
 from argparse import Namespace
 from collections.abc import Callable
@@ -44,7 +44,7 @@ STEP = 10_001
 
 
 def rows() -> Shape:
-    """How many workers and objects there are, and what makes them."""
+    """How many workers and objects there are, and the lines that make them."""
     return WORKERS, WORKERS * OBJECTS, [f"{worker} create rw" for worker in range(WORKERS) for _ in range(OBJECTS)]
 
 

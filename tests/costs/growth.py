@@ -1,8 +1,8 @@
 #!/usr/bin/env python3
 """growth.py [PROGRAM] [--only TEXT]
 
-Counts, under valgrind, what a few commands cost beside little and beside much that they don't change, and says whether the second is
-at most so many times the first. No clause speaks of it: a walk over all that is there finds the same.
+Counts, under valgrind, the instructions of a few commands beside little and beside much that they don't change. It says whether the
+second count is at most so many times the first. No clause speaks of this cost. A walk over all that is there finds the same.
 
   minors   a vertex is made and given up, and a nursery collection follows, beside a row in Old of 1,000 edges and of 90,000, of
            which the first was given up
@@ -26,9 +26,9 @@ at most so many times the first. No clause speaks of it: a walk over all that is
            Their indexes are looked up. The second is of rows among the first 64 names. Where their indexes are is kept, so that it
            has to be less
 
-For each size two scripts are run, with and without the commands that are counted. Their difference over the number of times is what
-one costs. PROGRAM is crates/tgstore/out/tgstore unless it is given; --only leaves out what hasn't the text in its name. Exit status
-1 where one costs more, or a run ended otherwise than it is to. Where valgrind isn't here, nothing is run."""
+For each size two scripts are run, with and without the commands that are counted. Their difference over the number of times is the cost
+of one. PROGRAM is crates/tgstore/out/tgstore unless it is given. --only runs only the counts whose name has the text. Exit status 1 if
+one costs more, or if a run didn't end as it has to. Without valgrind nothing is run."""
 import sys
 from argparse import Namespace
 from collections.abc import Callable
@@ -83,7 +83,7 @@ def marks(row: int) -> Counted:
 
 
 def noted(row: int) -> Counted:
-    """Every third edge is given up and another one made in its place, and all of these come to Old."""
+    """Every third edge is given up and another edge made in its place, and all of these edges come to Old."""
     again = range(1, row + 1, 3)
     before = ["0 create r"] * row + ["full"] + [f"0 remove {name} r" for name in again] + ["0 create r"] * len(again)
     before += ["minor", "minor", "0 create r", "minor"]
@@ -122,7 +122,7 @@ def removes(row: int) -> Counted:
 
 
 def holes(row: int) -> Counted:
-    """The name that is given up is the one that was made last, whose edge is last."""
+    """The name that is given up is the name that was made last, whose edge is last."""
     names = range(row, row + TIMES)
     rounds = [line for name in names for line in (f"0 remove {name} r", "0 create r")]
     return Counted(["--workers", "1", "--stock", f"c{row + TIMES}"], ["0 create r"] * row, rounds)
@@ -171,7 +171,7 @@ def hints(worker: int) -> Counted:
 
 @dataclass
 class Check:
-    """What is counted, what it is counted beside, and how often the first count the second may be."""
+    """The count, the amounts beside which it is made, and how many times the first count the second may be."""
 
     script: Callable[[int], Counted]
     what: str

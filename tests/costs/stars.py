@@ -1,17 +1,17 @@
 #!/usr/bin/env python3
 """stars.py [PROGRAM] [--most VERTICES]
 
-Counts, under valgrind, the instructions of a question with a star and of one about two vertices, on scripts that make 1,000, 10,000
-and 80,000 vertices, and says whether the first takes at most 20 times as many as the second. No clause speaks of it: asking about
-each vertex by itself lists the same.
+Counts, under valgrind, the instructions of a question with a star and of a question about two vertices. The scripts make 1,000,
+10,000 and 80,000 vertices. It says whether the first takes at most 20 times as many as the second. No clause speaks of this cost. A
+question about each vertex by itself lists the same.
 
   * R Y   who could hold r over the first object
   X * *   what worker 1, who can take all of it, could hold
 
-On each script a run asks one question about two vertices, and others ask one question more. The difference is what the question
-more takes, so neither the start of the process nor the script counts. PROGRAM is crates/tgcould/out/tgcould unless it is given;
---most leaves out scripts that make more. Exit status 1 if a star takes
-more, or if a run doesn't end well. Without valgrind nothing is run."""
+On each script a run asks one question about two vertices, and others ask one question more. The difference is the cost of the
+additional question, so neither the start of the process nor the script counts. PROGRAM is crates/tgcould/out/tgcould unless it is
+given. --most leaves out scripts that make more vertices. Exit status 1 if a star takes more, or if a run doesn't end well. Without
+valgrind nothing is run."""
 import sys
 from argparse import Namespace
 from pathlib import Path

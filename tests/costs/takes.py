@@ -1,14 +1,14 @@
 #!/usr/bin/env python3
 """takes.py [PROGRAM]
 
-Counts the instructions of a take from a row of 200 edges and from one of 20,000, under valgrind, and says whether the second is at
-most 1.5 times the first. An index that is there and never asked meets every contract, since a walk along the row finds the same: here
-it shows. For each row two scripts are run, one that makes the row and one that takes from it then too. Their difference over the
-number of takes is what one costs. The takes go over names that are all along the row, and are the same number each time, so the row
-of the taker is as long in both.
+Counts the instructions of a take from a row of 200 edges and from a row of 20,000, under valgrind. It says whether the second count
+is at most 1.5 times the first. An index that is there and never asked meets every contract, because a walk along the row finds the
+same. This script finds such an index. For each row two scripts are run. One makes the row, and the other also takes from it. Their
+difference over the number of takes is the cost of one take. The takes go over names that are all along the row. Their number is the
+same each time, so the row of the taker is as long in both.
 
-PROGRAM is crates/tgstore/out/tgstore unless it is given. Exit status 1 where takes from the long row cost more, or a run ended
-otherwise than it is to. Where valgrind isn't here, nothing is run."""
+PROGRAM is crates/tgstore/out/tgstore unless it is given. Exit status 1 if takes from the long row cost more, or if a run didn't end
+as it has to. Without valgrind nothing is run."""
 import sys
 from argparse import Namespace
 from pathlib import Path

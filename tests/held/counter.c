@@ -1,8 +1,8 @@
-/* Counts what the program that it is loaded into (LD_PRELOAD) asks of malloc and of threads, and tells it in the file
-   that HELD_TELL names, as the numbers of struct told. It refuses the request whose number HELD_REFUSE has, from 1 on, and
-   has the read of standard input fail whose number HELD_READ has, and the write to standard output that HELD_WRITE has.
-   Each piece has a header of its own with the bytes that were asked for, so what is told is the same with every C
-   library. A piece that was taken before is given back as it is. */
+/* It is loaded into a program (LD_PRELOAD), and counts the requests of the program to malloc and for threads. It writes
+   the counts into the file that HELD_TELL names, as the numbers of struct told. It refuses the request whose number
+   HELD_REFUSE has, from 1 on. It has the read of standard input fail whose number HELD_READ has, and the write to standard
+   output that HELD_WRITE has. Each piece has a header of its own with the bytes that were asked for, so the counts are the
+   same with every C library. A piece that was taken before is given back as it is. */
 #define _GNU_SOURCE
 #include <dlfcn.h>
 #include <errno.h>
@@ -22,7 +22,7 @@ void *__libc_realloc(void *at, size_t size);
 void *__libc_memalign(size_t alignment, size_t size);
 void __libc_free(void *at);
 
-/* What is in front of each piece. It is as long as malloc's own alignment. */
+/* The header in front of each piece. It is as long as malloc's own alignment. */
 struct header {
     uint64_t size;
     uint64_t mark; /* MARK, and how far in front of the piece its room begins */
@@ -181,7 +181,7 @@ static uint64_t number_in(const char *name) {
     return text ? strtoull(text, NULL, 10) : 0;
 }
 
-/* The program may end without any destructor, so what is told is in the file from the first on. */
+/* The program may end without any destructor, so the counts are in the file from the first on. */
 __attribute__((constructor)) static void begin(void) {
     const char *path = getenv("HELD_TELL");
     int file = path ? open(path, O_RDWR) : -1;

@@ -1,4 +1,4 @@
-"""Each request for memory that tgaudit, tgcould and tgdot make, refused in turn: tests/held/run tries them."""
+"""Each request for memory that tgaudit, tgcould and tgdot make is refused in turn. tests/held/run tries them."""
 import hashlib
 import os
 import re
@@ -28,7 +28,7 @@ OPTIONS = ["--workers", "2", "--vertices", "50", "--stock", "c9"]
 
 @dataclass
 class Runs:
-    """A program, its words and what it reads, of which each request is refused in turn."""
+    """A program, its words and its input, of which each request is refused in turn."""
     program: str
     words: list
     text: bytes
@@ -63,14 +63,14 @@ RUNS = [
 
 
 def run(runs, path, environment, seconds):
-    """The status of a run, and what it wrote."""
+    """The status of a run, and its output."""
     ran = subprocess.run([path, *runs.words], input=runs.text, env=environment, capture_output=True, timeout=seconds, check=False)
     return ran.returncode, ran.stdout, ran.stderr
 
 
 def is_right(runs, whole, ran):
-    """Whether a run with a refused request is as one without, or out of memory, of which tgaudit tells the line too; a front of
-    the output may be there, and before it what tgcould reports of denied lines."""
+    """Whether a run with a refused request is as a run without, or out of memory. If memory ran out, tgaudit names the line
+    too. A front of the output may be there, and before it the report of tgcould on denied lines."""
     status, output, errors = ran
     if ran == whole:
         return True
@@ -79,7 +79,7 @@ def is_right(runs, whole, ran):
 
 
 def check(counter, folder, seconds):
-    """Refuses each request of each of the runs, and answers how many runs there were, and what is wrong with the wrong ones."""
+    """Refuses each request of each of the runs, and returns how many runs there were, and the faults of the wrong ones."""
     count, wrong = 0, []
     for runs in RUNS:
         path = os.path.join(folder, runs.program, "out", runs.program)

@@ -116,7 +116,7 @@ def fulls_of_a_heap_that_grows():
 
 
 def a_heap_that_shrinks():
-    """A worker retires who alone reached 20,000 objects: what stays is small again."""
+    """A worker retires who alone reached 20,000 objects. The memory that stays is small again."""
     front = ["edge 0 1 r", *creates(20_000, "rg", worker=1), "full", "full", "1 retire"]
     rest = ["full", "full", "minor", *creates(100), "full", "full"]
     return Script("--workers 2 --stock c21000", front + rest, (1, 2, 8))
@@ -142,7 +142,8 @@ def hundreds_of_long_rows():
 
 
 def old_cells_that_are_remembered():
-    """20,000 old rows of which each comes to name a young object: roots of the next collection of the nurseries."""
+    """20,000 old rows of which each comes to name a young object. They are roots of the next collection of the
+    nurseries."""
     size = 20_000
     lines = creates(size, "g") + ["full", "full"] + creates(50)
     lines += [f"0 grant {1 + i} {1 + size + i % 50} r" for i in range(size)] + ["minor", "minor", "0 list"]
@@ -150,14 +151,14 @@ def old_cells_that_are_remembered():
 
 
 def commands_on_a_small_graph():
-    """100,000 commands leave at most 32 entries: what was answered is given up."""
+    """100,000 commands leave at most 32 entries, because answered entries are given up."""
     forms = ["0 read 2", "1 read 2", "0 write 2 7", "0 list", "0 read 9", "0 read 3", "1 list", "9 list"]
     lines = itertools.islice(itertools.cycle(forms), 100_000)
     return Script("--workers 2 --stock sm", ["0 create rw", "0 create rw", *lines])
 
 
 def lists_of_a_row_of_2000():
-    """2,000 lists of 2,000 edges take no more than one: 64 MB of entries are given up as they are answered."""
+    """2,000 lists of 2,000 edges take no more than one list. 64 MB of entries are given up as they are answered."""
     return Script("--workers 1 --stock c2000", creates(2_000) + ["0 list"] * 2_000)
 
 
@@ -206,17 +207,17 @@ def a_long_command_line():
 
 
 def a_line_too_long():
-    """What is after the line that ends the run isn't run, and its boxes are given back."""
+    """The lines after the line that ends the run aren't run, and their boxes are given back."""
     return Script("--workers 1 --stock l100", creates(40) + ["full", "0 list " + "x" * 300, *creates(40)], status=1)
 
 
 def a_read_fails_once():
-    """What was read before it is answered, and what is after it isn't read."""
+    """The lines that were read before it are answered, and the lines after it aren't read."""
     return Script("--workers 1", ["0 list", "0 read 0"] * 20_000, status=1, failed_read=3)
 
 
 def a_write_fails_once():
-    """What was put before it is written as the run ends, and nothing is run after it."""
+    """The output before it is written as the run ends, and nothing is run after it."""
     return Script("--workers 1", ["0 list", "0 read 0"] * 20_000, status=1, failed_write=3)
 
 

@@ -5,8 +5,8 @@ in a database loses an entry or a row of its host, when its writer or the server
 A writer does commands at random, in transactions that also insert a row of the host for each entry. After each transaction it
 acknowledges the entries. N writers (1,000) are killed by SIGKILL one after the other, each at a random moment, over sqlite3 and
 over PostgreSQL. After each kill both tables have to have the same entries, with all that were acknowledged, and a follower
-replays them. In every twentieth round the writer prunes first. Planted writers that are wrong have to be found: one with two
-transactions, one with two in the other order, and one that acknowledges before its COMMIT.
+replays them. In every twentieth round the writer prunes first. Three planted writers that are wrong have to be found. One has
+two transactions, one has two in the other order, and one acknowledges before its COMMIT.
 
 N servers of PostgreSQL (50) are ended by `pg_ctl -m immediate` while a writer writes, and started again. In N failovers (3) a
 server with a synchronous standby is ended, and the standby takes over. A follower answers N questions (10,000) over each
@@ -90,7 +90,7 @@ def kill_writers(name, made, count, rng):
 
 
 def said_of(checker):
-    """What a checker has come to."""
+    """The state of a checker."""
     return f"{checker.place} entries, {checker.acknowledged} acknowledged: none is wrong"
 
 
@@ -219,7 +219,7 @@ def wait_for_standby(server):
 # ---- questions
 
 def ask(store, rng):
-    """A question at random, and what the store answers."""
+    """A question at random, and the answer of the store."""
     worker, target, right = rng.randrange(WORKERS), rng.randrange(30), 1 << rng.randrange(8)
     kind = rng.choice(["label", "who_holds", "could"])
     words = {"label": (worker, target), "who_holds": (right, target), "could": (worker, right, target)}[kind]

@@ -1,9 +1,10 @@
 #!/usr/bin/env python3
 """extension.py [--only WORD]
 
-Plants a fault in Python's extension module, builds it, and runs the tests of Python and 150,000 calls of python.py over it, until one
-of these fails, crashes or hangs. Then it plants the next fault. With --only those alone whose name has the word. Exit status 1 if a
-fault isn't found. It needs the headers of Python 3.11 or later, a C compiler, and what bindings/build built. """
+Plants a fault in Python's extension module, and builds it. Then it runs the tests of Python and 150,000 calls of python.py over it,
+until one of these fails, crashes or hangs. Then it plants the next fault. With --only it plants only the faults whose name has the
+word. Exit status 1 if a fault isn't found. It needs the headers of Python 3.11 or later, a C compiler, and what bindings/build built.
+"""
 import argparse
 import os
 import shutil

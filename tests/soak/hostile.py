@@ -1,10 +1,11 @@
 #!/usr/bin/env python3
 """hostile.py [PROGRAM] [--only WORD] [-- WORD ..]
 
-Runs the store on scripts of 1 MiB that are made to be slow, one after the other, and prints for each how many lines it has, how many bytes are written for it
-and the processor time of the whole program. No script has a `list`, whose replies may come to gigabytes, nor an `inspect` of a long row; but for those that
-say so none has a collection. Exit status 1 where a script took over a second, or ended otherwise than it is to. PROGRAM is crates/tgstore/out/tgstore unless
-it is given; with --only those cases alone whose name has the word. The words after -- are handed to the program too, as --race."""
+Runs the store on scripts of 1 MiB that are made to be slow, one after the other. For each it prints how many lines it has, how many bytes
+are written for it, and the processor time of the whole program. No script has a `list`, whose replies may come to gigabytes, or an
+`inspect` of a long row. Only scripts that say so have a collection. Exit status 1 if a script took over a second, or didn't end as it has
+to. PROGRAM is crates/tgstore/out/tgstore unless it is given. With --only it runs only the scripts whose name has the word. The words after
+-- are handed to the program too, as --race."""
 import collections
 import itertools
 import os
@@ -35,7 +36,7 @@ def count_on(form, start=0, modulus=1 << 62):
     return (form.format(i % modulus) for i in itertools.count(start))
 
 
-# ---- which names collide in an index: its hasher has one seed for all, so who writes a script may know them
+# ---- the names that collide in an index, whose hasher has one seed for all. So a writer of a script may know them
 
 def index_hash(name):
     """Four names that follow one another have one group, and the last two bits go to the tag, which no group is chosen by."""
@@ -50,7 +51,7 @@ def colliding(names, groups, most):
     return list(itertools.islice((name for name in names if index_hash(name) % groups == 0), most))
 
 
-# ---- the cases: the words, the lines in front, and lines without end for the rest
+# ---- the cases, with their words, the lines in front, and lines without end for the rest
 
 Case = collections.namedtuple("Case", "words front rest status", defaults=(0,))
 
@@ -174,7 +175,7 @@ def appends_to_what_is_no_log():
 
 
 def inspections_of_a_long_row():
-    """What is inspected has a place in a long row, and no edges."""
+    """The inspected vertex has a place in a long row, and no edges."""
     size = 45_000
     return Case("--workers 1 --stock c100000", creates(size, "l"), (f"0 inspect {1 + i * 7919 % size}" for i in itertools.count()))
 
@@ -223,7 +224,7 @@ def a_line_without_an_end():
 
 
 def one_collection_and_old_rows():
-    """Half of the script makes a row, which a full collection moves to Old; what comes after it is young and is remembered."""
+    """Half of the script makes a row, which a full collection moves to Old. The vertices after it are young and remembered."""
     size = 40_000
     rest = (f"0 remove {1 + i // 2} r" if i % 2 == 0 else "0 create r" for i in itertools.count())
     return Case("--workers 1 --stock c100000", creates(size) + ["full"], rest)
@@ -268,7 +269,7 @@ CASES = [
 
 
 def script_of(case):
-    """The lines in front, and as many of the rest as fit; a script that is to end badly ends in the middle of a line."""
+    """The lines in front, and as many of the rest as fit. A script that is to end badly ends in the middle of a line."""
     rest = case.rest if hasattr(case.rest, "__next__") else over_and_over(case.rest)
     whole, length = [], 0
     for line in itertools.chain(case.front, rest):

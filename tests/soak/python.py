@@ -1,8 +1,8 @@
 #!/usr/bin/env python3
-"""python.py [--calls N] [--valgrind | --refused]: whether calls from Python leave something behind, or break if memory runs out.
+"""python.py [--calls N] [--valgrind | --refused]: whether calls from Python leave memory or objects, or break if memory runs out.
 
-It makes N calls (10,000,000) of every kind: served, denied, refused, and with wrong arguments. After the first tenth and at the end it
-counts blocks, objects, references to what the package shares, and bytes. Exit status 1 if one of these grew.
+It makes N calls (10,000,000) of every kind, which are served, denied, refused, or have wrong arguments. After the first tenth and at
+the end it counts blocks, objects, references to shared objects of the package, and bytes. Exit status 1 if one of these grew.
 
   --valgrind   makes 20,000 calls, or N, under valgrind's memcheck, and fails for each error or lost block that names the library or
                the extension module
@@ -142,8 +142,8 @@ def made(call):
 
 
 def long_rows(store):
-    """Has a worker list a row that is read from its entry, and asks for names that Python makes objects of, for a room as large,
-    and for an answer with as many turns."""
+    """Has a worker list a row that is read from its entry. Asks for names that Python makes objects of, for a room as large, and for an
+    answer with as many turns."""
     names = [store.create(2, READ, Cell(0)) for _ in range(LONG_ROW)]
     assert len(store.list(2)) == len(list(store.journal())[-1].reply.edges) == LONG_ROW
     assert store.names().issuperset(names)
@@ -157,7 +157,7 @@ def long_rows(store):
 
 
 def counts():
-    """What there is now."""
+    """The blocks, objects, references and bytes that there are now."""
     gc.collect()
     shared = [kovshenul.Target, journal.Record, kovshenul.Denied, kovshenul.NoSuchWorker, _values.RIGHTS, *_values.RIGHTS]
     return {
@@ -169,7 +169,7 @@ def counts():
 
 
 def soak(calls):
-    """Makes so many calls. Returns what there was after the first tenth, and what at the end."""
+    """Makes so many calls. Returns the counts after the first tenth, and the counts at the end."""
     before, done = None, 0
     while done < calls:
         with Store(*OPENING) as store, Auditor(*OPENING) as auditor, store.view() as view:
@@ -208,7 +208,7 @@ def must_pass_valgrind(calls):
 
 
 def outcome_of(call):
-    """The class of what the call raises, or None."""
+    """The class of the exception that the call raises, or None."""
     try:
         call()
     except Exception as error:
@@ -228,8 +228,8 @@ def refused_at(api, call, at):
 def must_bear_refusals():
     """Whether each call with each of its first requests refused raises MemoryError or does what it does, and leaves a store that works.
 
-    A call that raises may end by SystemError too: the interpreter does so if it has no memory for a traceback. ctypes makes an
-    ArgumentError of a MemoryError, and reads snapshots over the extension module too."""
+    A call that raises may end by SystemError too, because the interpreter raises it if it has no memory for a traceback. With ctypes it
+    makes an ArgumentError of a MemoryError, and reads snapshots over the extension module too."""
     try:
         import _testcapi
     except ImportError:

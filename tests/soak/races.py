@@ -1,9 +1,10 @@
 #!/usr/bin/env python3
 """races.py [PROGRAM] [--only WORD]
 
-What the audit at the end of a race costs: each script of hostile.py is run plain and as a race, three times in turn, and the processor
-time of both is printed (the middle one of three). Exit status 1 where a race took over 4 times the plain run, and over 0.03 s more.
-PROGRAM is crates/tgstore/out/tgstore unless it is given; with --only those scripts alone whose name has the word."""
+The cost of the audit at the end of a race. Each script of hostile.py is run plain and as a race, three times in turn. The script
+prints the processor time of both, which is the middle one of three. Exit status 1 if a race took over 4 times the plain run, and
+over 0.03 s more. PROGRAM is crates/tgstore/out/tgstore unless it is given. With --only it runs only the scripts whose name has the
+word."""
 import argparse
 import os
 import statistics

@@ -1,16 +1,16 @@
 #!/usr/bin/env python3
 """streams.py [PROGRAM]
 
-Runs the program on streams that fail, and asserts what was written and how it ends:
+Runs the program on streams that fail, and asserts its output and how it ends. The runs are of these kinds:
 
-  reads and writes, each in turn, that fail with EIO, are interrupted, or take nothing (by strace, and else left out);
-  reads and writes of one byte a call (the writes by strace too);
-  a standard input, output or error that is closed, outputs that are full, and one whose reader is gone;
-  a client that writes a part of a line, or a line, and waits, while the program is stopped and goes on.
+  - reads and writes that fail with EIO, are interrupted, or take nothing, each in turn. This needs strace, and else is left out
+  - reads and writes of one byte a call. The writes need strace too
+  - a standard input, output or error that is closed, outputs that are full, and an output whose reader is gone
+  - a client that writes a part of a line, or a line, and waits, while the program is stopped and goes on
 
-It prints how many runs there were of each, and stops at the first that is wrong. What is wanted is a run on files, whose
-replies tests/runs has. No call is slow here but by a stop, no descriptor is without waiting, and none is a terminal: these are left out. PROGRAM is
-crates/tgstore/out/tgstore unless it is given."""
+It prints how many runs there were of each, and stops at the first that is wrong. A right run is a run on files, whose replies tests/runs
+has. It leaves out slow calls other than by a stop, descriptors that don't wait, and terminals. PROGRAM is crates/tgstore/out/tgstore unless
+it is given."""
 import argparse
 import itertools
 import os
@@ -36,7 +36,7 @@ READ_FAILED, WRITE_FAILED = b"tgstore: read failed\n", b"tgstore: write failed\n
 
 
 class Script:
-    """Lines of one worker, each of which has a reply, and what the program answers."""
+    """Lines of one worker, each of which has a reply, and the output of the program."""
 
     def __init__(self, program, room, name, lines, stock):
         self.text = "".join(line + "\n" for line in lines).encode()
@@ -60,7 +60,7 @@ class Script:
             return done.returncode, sink.read(), done.stderr
 
     def replies(self, way, taken):
-        """What is to be written once so many bytes were read and no more can be."""
+        """The output that is due once so many bytes were read and no more can be."""
         if "--race" in way:
             return b""
         count = self.text[:taken].count(b"\n")
@@ -79,7 +79,7 @@ def tell(what, runs):
 # ---- calls that fail, by strace
 
 def traced(script, way, call, what):
-    """A run in which strace does this to its calls on the script or on the output, and what each of these calls came to."""
+    """A run in which strace does this to its calls on the script or on the output, and the outcome of each of these calls."""
     path = script.path if call == "read" else script.output
     log = script.output + ".log"
     before = ["strace", "-qq", "-o", log, "-s", "1", "-xx", "-P", path, "-e", f"trace={call}", "-e", f"inject={call}:{what}"]
@@ -116,7 +116,7 @@ def each_write(script, way, what, is_made_again):
 
 
 def one_byte_a_write(script, way):
-    """Each write says that it took one byte. The bytes are those of the log."""
+    """Each write says that it took one byte. The bytes are the bytes of the log."""
     end, calls = traced(script, way, "write", "retval=1")
     bytes_taken = bytes(int(shown[2:], 16) for shown, _ in calls)
     want(end == (0, b"", b"") and bytes_taken == script.wanted[" ".join(way)], way, end, bytes_taken)

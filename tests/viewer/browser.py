@@ -1,4 +1,4 @@
-"""A browser without a window, led through a pipe: Chromium, by its DevTools protocol."""
+"""A browser without a window, led through a pipe. It is Chromium, by its DevTools protocol."""
 
 import json
 import os
@@ -21,7 +21,7 @@ WORDS = (
 
 
 class Browser:
-    """One page in a browser of its own. What it logs and asks for is kept in `events`."""
+    """One page in a browser of its own. Its log and its requests are kept in `events`."""
 
     def __init__(self, program):
         self.room = tempfile.TemporaryDirectory(prefix="viewer-browser-", ignore_cleanup_errors=True)
@@ -71,7 +71,7 @@ class Browser:
                 self.events.append(message)
 
     def call(self, method, **params):
-        """Calls a method of the protocol. What it answers."""
+        """Calls a method of the protocol. Its answer."""
         self.number += 1
         message = {"id": self.number, "method": method, "params": params}
         if self.session:
@@ -85,7 +85,8 @@ class Browser:
         return answer["result"]
 
     def open(self, address):
-        """Opens an address, and waits until it is loaded. What was kept of the last one is forgotten."""
+        """Opens an address, and waits until it is loaded. The log and the requests of the last page are
+        forgotten."""
         self.call("Page.navigate", url="about:blank")
         self.wait("about:blank")
         self.events.clear()

@@ -1,29 +1,28 @@
-"""What a growth is asked for: whether a body asks for more than there is, so as to be refused. tools/check_allocation
-runs it, and its head says the rule.
+"""The amounts for which a growth is asked. A body may not ask for more than there is, so as to be refused. This module finds
+such a body. tools/check_allocation runs it, and its head has the rule.
 
-An amount is allowed where it is
-  - a number or a constant of at most MOST;
-  - the length of what is there (LENGTHS), or one of the tree's own sizes (SIZES);
-  - a parameter: then each call of the function is asked for an amount there, in all crates;
-  - a local: then it is what the local is bound to;
-- a sum, a difference, a quotient, the least or the greatest of these, or one of two branches. All else is a fault:
-    a product, a shift, a field, what a call answers, what a pattern binds. It may be in a named place (NAMED), word
-    by word as it is there. An amount is asked for
-  - by a growth of the kit that takes one (AMOUNT_AT), by `vec![in alloc; value; amount]`, and by an array's type or
-    value;
-  - by the end of a range, since a loop or a chain over it may grow something each time;
-  - by a `while` that compares by `<`: what it is compared with, where something grows in it and no `len()` does.
-    Another `while` and a `loop` in which something grows stand in a named place.
-So that nothing is multiplied, in a loop a growth asks for one, and a function in which something grows by more than one
-is called only where that is in allocation/repeated. There it takes what is its own of what the loop goes through, an
-entry's text or a row's edges, or gives back what it took. No loop in which something grows is in another one; a closure
-with a parameter counts as a loop. No list is asked for room by its own length. What makes elements of nothing (MAKERS)
-isn't called, no type is an iterator or an allocator, no function that takes an amount is handed on as a value, and one
-in which something grows doesn't call itself.
+An amount is allowed if it is
+  - a number or a constant of at most MOST
+  - the length of a list that is there (LENGTHS), or one of the tree's own sizes (SIZES)
+  - a parameter. Then each call of the function is asked for an amount there, in all crates
+  - a local. Then it is the value to which the local is bound
+  - a sum, a difference, a quotient, the least or the greatest of these, or one of two branches
+Anything else is a fault. So a product, a shift, a field, the answer of a call and a name of a pattern are faults. Such an
+amount may be in a named place (NAMED), word by word as it is there. An amount is asked for
+  - by a growth of the kit that takes an amount (AMOUNT_AT), by `vec![in alloc; value; amount]`, and by an array's type or
+    value
+  - by the end of a range, because a loop or a chain over it may grow something each time
+  - by a `while` that compares by `<`, if something grows in it and no `len()` does. The amount is the other side of `<`.
+    Another `while` and a `loop` in which something grows are in a named place
+So that nothing is multiplied, a growth in a loop asks for one. A function in which something grows by more than one is
+called only from the places in allocation/repeated. There it takes a part of the value that the loop goes through, as an
+entry's text or a row's edges. Or it gives back what it took. No loop in which something grows is in another such loop, and
+a closure with a parameter counts as a loop. No list is asked for room by its own length. Functions that make elements of
+nothing (MAKERS) aren't called, and no type is an iterator or an allocator. No function that takes an amount is handed on
+as a value. A function in which something grows doesn't call itself.
 
-Which function a call is of is told by its words (growths.py): where these leave several, each of them is held. What
-remains: how often a loop that is in NAMED goes round, and what a call in allocation/repeated takes each time, no
-rule says."""
+The words of a call say which function it calls (growths.py). If they leave several functions, each of them is held. No
+rule says how often a loop that is in NAMED goes round, and how much a call in allocation/repeated takes each time."""
 import re
 from copy import copy
 from pathlib import Path
@@ -34,17 +33,17 @@ from .growths import AMOUNT_AT, BY_MORE, BY_ONE, CONSTANT, KIT_NUMBERS, CallsOfT
 from .places import NAMED, Place
 from .sources import Source, Span, arms, compact, level
 
-# A number of at most so many represents itself: a buffer of 64 KiB, and no more than a run can have.
+# A number up to this limit represents itself. The limit is a buffer of 64 KiB, and no more than a run can have.
 MOST = 1 << 16
 
-# What makes elements of nothing, and what is asked for otherwise.
+# Functions that make elements of nothing, and functions that ask for memory otherwise.
 MAKERS = {"repeat", "repeat_n", "repeat_with", "from_fn", "successors", "cycle", "flat_map", "stack_size"}
 
-# Calls that take a range and look at what is there.
+# Calls that take a range and look at a list that is there.
 OF_SLICES = {"range", "get", "get_mut", "drain", "copy_within"}
 
 LENGTHS = {"len", "count"}
-# The tree's own sizes, each told by a clause: the types that have them.
+# The tree's own sizes, each proved by a clause, with the types that have them.
 SIZES = {
     "made": {"Graph", "Picture", "Trial"},
     "cells": {"Spaces", "Spot"},
@@ -54,8 +53,8 @@ SIZES = {
 
 
 class Amounts:
-    """The rule, over a tree: `found` has what is wrong, and `repeated` the file, the function and the call of each that
-    grows something by more than one in a loop; those in `may` may."""
+    """The rule, over a tree. `found` has the faults. `repeated` has the file, the function and the call of each call
+    that grows something by more than one in a loop. The calls in `may` may do so."""
 
     def __init__(self, sources: list[Source], below: dict[str, set[str]], may: set[Place]):
         self.tree, self.may = CallsOfTree(below), may
@@ -166,7 +165,7 @@ class Amounts:
             self.hold(function, at + width, end, seen)
 
     def hold_name(self, function: Function, at: int, seen: tuple[str, ...]) -> None:
-        """Holds what a name is bound to; that of a parameter is held at each call."""
+        """Keeps the value to which a name is bound. The value of a parameter is kept at each call."""
         name = function.source.words[at]
         simple, is_otherwise = bound_to(function, name)
         is_parameter = name in function.parameters
@@ -351,8 +350,8 @@ class Amounts:
             self.hold(function, less + 1, opened)
 
     def hold_method(self, function: Function) -> None:
-        """A size of the tree is one of a type that is known to have it, and what has the name of a growth of the kit by
-        one grows by one."""
+        """A size of the tree is a size of a type that is known to have it. A call with the name of a growth of the kit
+        by one grows by one."""
         head = (function.start - 1, function.start)
         is_size = function.is_method and not function.parameters
         if is_size and function.owner not in SIZES.get(function.name, {function.owner}):

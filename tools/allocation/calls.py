@@ -1,5 +1,5 @@
-"""The functions of a source, what they call, their loops, and to what their names are bound: told by the words
-alone."""
+"""The functions of a source, their calls, their loops, and the values to which their names are bound. All are found by the
+words alone."""
 from collections.abc import Iterator
 from dataclasses import dataclass
 

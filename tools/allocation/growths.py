@@ -5,7 +5,7 @@ from copy import copy
 from .calls import Call, Function, calls_in, end_of, functions_of, lists_made, loops_in, operator, trimmed, words_of
 from .sources import Source, level
 
-# The calls of the kit that take an amount, and where it is: of functions of a type, and of methods.
+# The calls of the kit that take an amount, with the place of the amount. They are functions of a type, and methods.
 MADE_WITH = {"with_capacity": 1, "with_capacity_and_hasher": 1, "from_elem": 2, "vacant": 2}
 RESERVED_BY = ("reserve", "reserve_exact", "try_reserve", "try_reserve_exact")
 GROWN_BY = {name: 0 for name in (*RESERVED_BY, "resize", "resize_with", "try_resize_with")}
@@ -26,14 +26,14 @@ NUMBER = re.compile(r"(0x[0-9a-fA-F_]+|0b[01_]+|[0-9][0-9_]*?)(?:_?[iu](?:8|16|3
 class CallsOfTree:
     """The functions of a tree's sources and their calls. `below` has the crates on which each crate depends.
 
-    Functions are told apart by their names, the types before them, how many arguments there are and which crates a
-    crate depends on: where that leaves several, a call may be any of these. A method with a name of the kit's is
-    taken for the kit's."""
+    Functions are distinguished by their names, the types before them, how many arguments there are, and which crates a
+    crate depends on. If this leaves several, a call may be any of these. A method with a name of the kit's is taken
+    for the kit's."""
 
     def __init__(self, below: dict[str, set[str]]):
         self.below = below
         self.functions: list[Function] = []
-        # by name: the functions, the calls, and the expressions of constants
+        # the functions, the calls, and the expressions of constants, by name
         self.by_name: dict[str, list[Function]] = {}
         self.calls: dict[str, list[Call]] = {}
         self.constants: dict[str, list[tuple[Source, int, int]]] = {}
@@ -97,8 +97,8 @@ class CallsOfTree:
                 self.constants.setdefault(words[at + 1], []).append((source, equal + 1, end))
 
     def note_growing(self, fresh: list[Function], calls: list[Call]) -> None:
-        """Notes in which functions something grows, and in which by more than one: by the kit, in a loop, or by a call
-        of one of these."""
+        """Notes in which functions something grows, and in which by more than one. It grows by the kit, in a loop, or
+        by a call of such a function."""
         grown = {call.function for call in calls if is_growth(call) or self.grown_by(call, self.growing)}
         grown |= {function for function in fresh if has_growing_macro(function)}
         self.spread(self.growing, grown)
@@ -120,7 +120,7 @@ class CallsOfTree:
                     waiting.append(call.function)
 
     def grown_by(self, call: Call, functions: set[Function]) -> bool:
-        """Whether a call is one of these functions; a method with a name of the kit's is the kit's."""
+        """Whether a call is a call of these functions. A method with a name of the kit's is the kit's."""
         is_of_kit = call.before == "." and (call.name in BY_ONE or call.name in GROWN_BY and call.arguments)
         return not is_of_kit and any(function in functions for function in self.callees(call))
 

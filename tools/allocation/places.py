@@ -1,5 +1,5 @@
-"""The named places: where a text may be that the rules of refusals.py and amounts.py don't allow, word by word as it
-stands there, and why. What is named and isn't there is a fault, too."""
+"""The named places, at which a text may be that the rules of refusals.py and amounts.py don't allow. Each has the text word
+by word, and the reason. A text that is named and isn't there is a fault, too."""
 
 # A file, a function in it, and words that are there.
 Place = tuple[str, str, str]
@@ -7,7 +7,8 @@ Place = tuple[str, str, str]
 # What is handed back alone, in one file.
 HANDED_ALONE = {"tg_shared/src/locked.rt": ["Err", "(", "store", ")"]}
 
-# Where a want may be written: the file and the function, under which words each time, and why.
+# The places at which a lack of memory may be reported. Each has the file and the function, the words under which it is
+# each time, and the reason.
 PLACES = {
     ("tg_journal/src/journal.rt", "reserve_many"): (
         ["if u64::MAX-self.len()<more as u64"],
@@ -120,8 +121,8 @@ PINNED = {
     ),
 }
 
-# A refused growth that is noted and told later, and what may be noted beside one. It fails for lack of memory alone, or
-# was noted there.
+# A refused growth that is noted and reported later, and the other facts that may be noted beside it. It fails for lack
+# of memory alone, or was noted there.
 NOTED = {"is_short"}
 NOTED_OTHERWISE = {
     ("tg_plain/src/text.rt", "write_reply(self, answer).is_err()"),
@@ -130,7 +131,8 @@ NOTED_OTHERWISE = {
     ("tgdot/src/steps.rt", "shot.is_short()||frame.is_short()"),
 }
 
-# What is asked for and isn't of the forms of amounts.py: the file and the function, the words, and why they may be.
+# The requests that aren't of the forms of amounts.py. Each has the file and the function, the words, and the reason why
+# it may be.
 NAMED = {
     ("tg_rows/src/indexed_row.rt", "reserve", "self.old_cells"):
         "how many of the row's cells lie in Old: no more than it has",

@@ -5,7 +5,7 @@ from collections.abc import Iterator
 from .places import HANDED_ALONE, NOTED, NOTED_OTHERWISE, PINNED, PLACES
 from .sources import Source, Span, arms, compact, function, head, level, owner_of, past_angles, start_of_path
 
-# The errors of the kit; variants; refusals that hand something back for lack of memory alone.
+# The errors of the kit, the variants, and the refusals that hand something back for lack of memory alone.
 KIT = {"AllocError", "AllocFailed"}
 VARIANTS = {"OutOfMemory", "NoThread"}
 OF_TYPES = {"Memory": {"Refusal"}, "Threads": {"Refusal"}, "Failed": {"Put", "Next"}}
@@ -18,7 +18,7 @@ GROWTHS |= {".push", ".push_str", ".insert", ".reserve", ".extend_from_slice", "
 
 
 def names_want(source: Source, at: int) -> bool:
-    """Whether a variant of a want is here, with the type before it or imported."""
+    """Whether a variant for lack of memory is here, with the type before it or imported."""
     word = source.words[at]
     return word in VARIANTS or source.words[at - 1] == "::" and source.words[at - 2] in OF_TYPES.get(word, set())
 
@@ -59,7 +59,7 @@ def is_compared(source: Source, at: int) -> bool:
 
 
 def is_handed_on(source: Source, at: int) -> bool:
-    """Whether it is in an arm for a want."""
+    """Whether it is in an arm for lack of memory."""
     for start in source.around(at):
         if source.words[start] == "{" and "match" in head(source, start) and (arm := arm_around(source, start, at)):
             wants = sum(names_want(source, i) for i in range(*arm))
@@ -109,15 +109,15 @@ class Calls:
             self.fails.setdefault(key, {}).setdefault(crate, set()).add(error)
 
     def only_want(self, source: Source, key: str) -> bool:
-        """Whether each function of this name fails for want alone: those of the crate, or else of the tree and the
-        kit."""
+        """Whether each function of this name fails for lack of memory alone. They are the functions of the crate, or
+        else of the tree and the kit."""
         of_tree = self.fails.get(key, {})
         errors = of_tree.get(source.place.split("/")[0]) or set().union(*of_tree.values())
         return errors <= KIT | HANDED_BACK and bool(errors or key in GROWTHS)
 
 
 def error_of(told: list[str]) -> str:
-    """The name of the error of a function whose result is told so."""
+    """The name of the error of a function with this type of result."""
     if told[:3] != ["->", "Result", "<"]:
         return ""
     inside, depth, last = told[3:past_angles(told, 2) - 1], 0, 0
@@ -128,7 +128,7 @@ def error_of(told: list[str]) -> str:
 
 
 def call_before(source: Source, start: int, end: int) -> str:
-    """The last call of an expression, as `.name`, `Type::name` or `name`; `.ok()` hands on what was before it."""
+    """The last call of an expression, as `.name`, `Type::name` or `name`. `.ok()` hands on the call before it."""
     words, key = source.words, ""
     for at in level(source, start, end):
         if words[at] != "(" or at == start:
@@ -152,8 +152,8 @@ def call_before(source: Source, start: int, end: int) -> str:
 
 
 def refused_call(source: Source, at: int) -> str:
-    """The call in whose error arm a place is, or nothing: after `else` of a `let`, of `is_err()`, or in an arm
-    `Err(..)`."""
+    """The call in whose error arm a place is, or nothing. The arm comes after `else` of a `let`, or of `is_err()`, or
+    is an arm `Err(..)`."""
     words = source.words
     for start in source.around(at):
         if words[start] != "{":
@@ -172,8 +172,8 @@ def refused_call(source: Source, at: int) -> str:
 
 
 def matched_call(source: Source, start: int, at: int) -> str | None:
-    """The call of the match whose arms are opened here, where a place is in the arm of any of its errors; nothing, ''
-    where it is in another arm, and None where in none."""
+    """The call of the match whose arms are opened here, if a place is in the arm of any of its errors. It is nothing,
+    '', if the place is in another arm, and None if it is in no arm."""
     words = source.words
     arm = arm_around(source, start, at)
     if arm is None:
@@ -227,7 +227,7 @@ def imports(source: Source) -> Iterator[Span]:
 
 
 def written(source: Source, calls: Calls) -> Iterator[tuple[int, str]]:
-    """Each place where a want is written, and what is wrong there."""
+    """Each place at which a lack of memory is reported, and the fault there."""
     in_use = {}
     for start, end in imports(source):
         in_use.update({at: end for at in range(start, end)})
@@ -248,7 +248,7 @@ def written(source: Source, calls: Calls) -> Iterator[tuple[int, str]]:
 
 
 def named_otherwise(source: Source) -> Iterator[tuple[int, str]]:
-    """The variants with the text of a want under another name."""
+    """The variants with the text of a lack of memory under another name."""
     for at, word in enumerate(source.words):
         name = TEXTS.get(word.strip('"')) if word.startswith('"') else None
         if name and source.words[at - 2:at] == ["error", "("] and source.words[at + 3] != name:
@@ -256,8 +256,8 @@ def named_otherwise(source: Source) -> Iterator[tuple[int, str]]:
 
 
 def condition(source: Source, at: int) -> str:
-    """The words under which a place is: up to the brace of its block; of a `let .. else` its call; of a `match` its
-    call and the patterns up to that of the arm."""
+    """The words under which a place is, up to the brace of its block. For a `let .. else` they are its call. For a
+    `match` they are its call and the patterns up to the pattern of the arm."""
     words = source.words
     opened = next(start for start in source.around(at) if words[start] == "{" and words[start - 1] != "=>")
     if words[opened - 1] == "else":
@@ -302,7 +302,8 @@ def pinned(source: Source) -> Iterator[str]:
 
 
 def faults(source: Source, calls: Calls) -> Iterator[str]:
-    """What is wrong in a source, and the named places in which it writes a want under the words that are there."""
+    """The faults of a source, and the named places in which it reports a lack of memory under the words that are
+    there."""
     left = {place: list(conditions) for place, (conditions, _) in PLACES.items() if place[0] == source.place}
     for at, what in [*written(source, calls), *named_otherwise(source), *noted(source, calls)]:
         place = (source.place, function(source, at))

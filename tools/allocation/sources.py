@@ -92,7 +92,7 @@ def start_of_path(words: list[str], at: int) -> int:
 
 
 def head(source: Source, start: int) -> list[str]:
-    """What is before a bracket, back to the end of what came before: groups are left out."""
+    """The text before a bracket, back to the end of the text before it. Groups are left out."""
     said, at, opens = [], start - 1, {shut: start for start, shut in source.shut.items()}
     while at >= 0 and source.words[at] not in (";", "=>", "{", "}", "="):
         if at in opens:

@@ -1,4 +1,4 @@
-"""How many instructions a program executes, under valgrind. The count doesn't depend on what else the machine does."""
+"""How many instructions a program executes, under valgrind. Other work on the machine doesn't change the count."""
 import argparse
 import re
 import shutil
@@ -23,7 +23,7 @@ class CountFailed(SystemExit):
 
 @dataclass(frozen=True)
 class Counted:
-    """How many instructions a run executed, and what it wrote to standard output."""
+    """How many instructions a run executed, and its standard output."""
 
     instructions: int
     output: bytes

@@ -7,7 +7,7 @@ from pathlib import Path
 
 from .tree import BadInput, Tree
 
-# The line with which a check ends that ran to its end: of some functions, or of a crate as a whole.
+# The last line of a check that ran to its end. It is of some functions, or of a crate as a whole.
 LAST = re.compile(r"^(?:only|logic)=.*$", re.M)
 FIELD = re.compile(r"([\w-]+)=(\S+)")
 
@@ -45,7 +45,7 @@ def home() -> Path:
 
 
 def version() -> str:
-    """What the toolchain says that it is."""
+    """The version that the toolchain prints."""
     return subprocess.run(["rt", "version"], capture_output=True, text=True, check=True).stdout.strip()
 
 

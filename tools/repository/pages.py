@@ -1,4 +1,5 @@
-"""What a page owes for its figures and its words: a command for each measured figure, and an introduction for each own word."""
+"""The duties of a page for its figures and its words. It has a command for each measured figure, and an introduction for each own
+word."""
 from __future__ import annotations
 
 import re

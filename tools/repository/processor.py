@@ -18,8 +18,8 @@ def seconds_of(process: int) -> float:
 
 
 def words_of(process: int) -> list[str]:
-    """The fields of /proc/PROCESS/stat after the name: first the state, then the parent. OSError if the process has
-    ended."""
+    """The fields of /proc/PROCESS/stat after the name. The first is the state, and the second the parent. OSError
+    if the process has ended."""
     stat = Path(f"/proc/{process}/stat").read_text(encoding="utf-8", errors="replace")
     return stat.rpartition(")")[2].split()
 

@@ -95,7 +95,7 @@ class Prose:
         return f"{name:28} {measures} {self.rows:5} {len(self.favourites):11}{' x' if any(self.faults(most_negations)) else ''}"
 
     def faults(self, most_negations: float = NEGATIONS) -> Iterator[str]:
-        """What is above its limit."""
+        """The measures that are above their limits."""
         if not self.sentences:
             return
         if self.long > LONG_SHARE:

@@ -1,5 +1,5 @@
-"""What is read of Rattle sources without a compiler: functions, types and clauses of a .rt file, and definitions of a
-.antt file. Everything is found by its text, so a form that this repository doesn't use may be missed."""
+"""A reader of Rattle sources without a compiler. It reads functions, types and clauses of a .rt file, and definitions
+of a .antt file. Everything is found by its text, so a form that this repository doesn't use may be missed."""
 import itertools
 import re
 from collections.abc import Iterator
@@ -23,8 +23,8 @@ class Function:
 
 @dataclass(frozen=True)
 class Clause:
-    """A `requires` or `ensures`: the text between its braces, with each run of blanks as one, and whether it is the
-    last one of a function of a trait, after which a semicolon is."""
+    """A `requires` or `ensures`. It has the text between its braces, with each run of blanks as one. It also says
+    whether it is the last one of a function of a trait, after which a semicolon is."""
 
     text: str
     is_last_of_trait: bool
@@ -91,7 +91,7 @@ def clauses(source: str) -> Iterator[Clause]:
 
 
 def end_of_braces(text: str, at: int) -> int:
-    """The place after the brace that shuts the one that was opened before this place."""
+    """The place after the brace that shuts the brace that was opened before this place."""
     depth = 1
     while depth > 0:
         depth += {"{": 1, "}": -1}.get(text[at], 0)
@@ -106,8 +106,8 @@ NO_DEFINITION = (" ", "use ", "pub use ", "pub mod ", "mod ")
 
 @dataclass
 class Definitions:
-    """The definitions of a .antt file: their lines of code by their names, without comments, and of each word that it
-    imports from specs, the crate, the file and the name there."""
+    """The definitions of a .antt file. They are lines of code by their names, without comments. For each word that
+    the file imports from specs it has the crate, the file and the name there."""
 
     bodies: dict[str, list[str]] = field(default_factory=dict)
     imports: dict[str, tuple[str, str, str]] = field(default_factory=dict)

@@ -1,5 +1,5 @@
-"""The stored rows in tests/runs: what a program is given, and what it must write. tests/runs/run says what the files of
-a row mean."""
+"""The stored rows in tests/runs. A row has the input of a program, and the output that it must write. The head of
+tests/runs/run says what the files of a row mean."""
 import os
 import shlex
 from dataclasses import dataclass
@@ -12,7 +12,7 @@ RUNS = TOP / "tests/runs"
 
 @dataclass(frozen=True)
 class Row:
-    """A row: a folder below the one of its group, whose files may be missing."""
+    """A row. It is a folder below the folder of its group, and some of its files may be missing."""
 
     folder: Path
 

@@ -66,8 +66,8 @@ class Tree:
         return (self.source(crate) / "main.rt").is_file()
 
     def below(self, *crates: str) -> list[str]:
-        """The tree's libraries on which these crates depend, without the crates themselves. Each comes after those
-        that it uses."""
+        """The tree's libraries on which these crates depend, without the crates themselves. Each comes after the
+        crates that it uses."""
         found: dict[str, None] = {}
         for crate in crates:
             for name in self.crate(crate).uses:
@@ -76,7 +76,7 @@ class Tree:
         return list(found)
 
     def with_those_below(self, *crates: str) -> list[str]:
-        """The crates, and the tree's libraries on which they depend. Each comes after those that it uses."""
+        """The crates, and the tree's libraries on which they depend. Each comes after the crates that it uses."""
         return list(dict.fromkeys(name for crate in crates for name in (*self.below(crate), crate)))
 
     def text(self, crate: str, file: str) -> str | None:
@@ -124,5 +124,5 @@ def read_text(path: Path) -> str:
 
 
 def write_text(path: Path, text: str) -> None:
-    """Puts the text into a file, in the place of what was there."""
+    """Puts the text into a file, in the place of its old text."""
     path.write_text(text, encoding="utf-8")

@@ -1,4 +1,5 @@
-"""What a proof rests on: the checker's last line for each crate, the axioms with their texts, unsafe code, proofs by hand, and sums."""
+"""The parts on which a proof rests. They are the checker's last line for each crate, the axioms with their texts, unsafe code, proofs by
+hand, and sums."""
 import hashlib
 import re
 import subprocess
@@ -18,12 +19,12 @@ NAMED = re.compile(r"\b\w+(?:::\w+)+")
 # Unsafe code of a source file: the line, with the comment before it.
 UNSAFE = re.compile(r"(?:^ *//.*\n)*^.*\bunsafe (?:impl|fn|\{).*\n", re.M)
 
-# What finds the text of an axiom, or None if the toolchain has none.
+# The function that finds the text of an axiom, or None if the toolchain has none.
 TextOf = Callable[[str], str | None]
 
 
 def parts_of(log: str) -> dict[str, str]:
-    """What a log has of each crate, by the crate's name. Its part begins with a line `== NAME`, as in the log of `rt ci`."""
+    """The part of a log for each crate, by the crate's name. Its part begins with a line `== NAME`, as in the log of `rt ci`."""
     _, *pieces = HEADING.split(log)
     return dict(zip(pieces[::2], pieces[1::2]))
 
@@ -52,7 +53,7 @@ def text_of_axiom(path: str) -> str | None:
 
 
 def faults_of(parts: dict[str, str], crates: Iterable[str], logic: str, text_of: TextOf) -> Iterator[str]:
-    """What is wrong with the parts of a log, for these crates and the logic with this sum."""
+    """The faults of the parts of a log, for these crates and the logic with this sum."""
     for crate in crates:
         last = last_of(parts.get(crate, ""))
         if last is None:
@@ -64,7 +65,7 @@ def faults_of(parts: dict[str, str], crates: Iterable[str], logic: str, text_of:
 
 
 def faults_of_proof(crate: str, said: str, last: Last, logic: str, text_of: TextOf) -> Iterator[str]:
-    """What is wrong with a proof: another logic, or axioms that aren't all there with their texts."""
+    """The faults of a proof, which are another logic, or axioms that aren't all there with their texts."""
     if last.fields.get("sum") != logic:
         yield f"{crate} was proved by the logic {last.fields.get('sum')}, and not by {logic}"
     reached = axioms_in(said)
@@ -76,8 +77,8 @@ def faults_of_proof(crate: str, said: str, last: Last, logic: str, text_of: Text
 
 
 def planted_logs(crates: list[str], logic: str) -> Iterator[dict[str, str]]:
-    """Five wrong logs, and before them the right one: a missing crate, one that isn't proved, another logic, an axiom without a text, and
-    an axiom that isn't counted."""
+    """Five wrong logs, and before them the right log. They have a missing crate, a crate that isn't proved, another logic, an axiom
+    without a text, and an axiom that isn't counted."""
     proved = f"logic=proved functions=1 sum={logic}\n"
     right = {crate: proved for crate in crates}
     first, *_ = crates
@@ -138,7 +139,7 @@ def sum_of(files: Iterable[Path], top: Path) -> str:
 
 
 def sums_of_toolchain(tree: Tree) -> Iterator[tuple[str, int, str]]:
-    """Of each part of the toolchain that the crates use: its name, how many files it has, and their sum."""
+    """For each part of the toolchain that the crates use, its name, how many files it has, and their sum."""
     used = ["std", *(name for crate in tree.crates.values() for name in crate.uses if name not in tree.crates)]
     for name in used:
         listed = (home() / f"rlibs/{name}.rlib/format").read_text(encoding="utf-8")

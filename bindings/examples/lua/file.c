@@ -1,14 +1,14 @@
 /* The file from which a killed host goes on.
 
-   The file has each entry of the store's journal, in their order, and between them what the host keeps beside the store:
-   plug-ins, objects and rules. Each part is written before the script or the host sees the reply. A host that was killed is
+   The file has each entry of the store's journal, in their order. Between the entries it has the plug-ins, objects and rules that
+   the host keeps beside the store. Each part is written before the script or the host sees the reply. A host that was killed is
    started again with the same words. The new process has the store do each entry again (tg_resume), and the store compares the
    replies. So nobody has to believe the file. After an altered entry the host doesn't start.
 
-   What a kill may leave, and what the new process does about it:
-   - half a part at the end of the file: it is cut off, as if its command had never been asked for
-   - rights that the host held in the middle of a hand: the host gives them up
-   - a worker whose plug-in isn't in the file yet: the worker leaves
+   A kill may leave one of these, which the new process mends:
+   - half a part at the end of the file. It is cut off, as if its command had never been asked for
+   - rights that the host held in the middle of a hand. The host gives them up
+   - a worker whose plug-in isn't in the file yet. The worker leaves
    - Lua states: they are gone. Each script starts anew as the worker that it was. It has a handle to each object that it holds in
      its inbox. A script keeps in objects what it needs afterwards.
 
@@ -27,7 +27,7 @@ enum kind { ENTRY = 1, PLUGIN, OBJECT, RULE, SECRET };
 
 enum { SWEEP = 4096 };         /* entries between two collections while the file is read */
 
-/* What each part begins with. */
+/* The head of each part. */
 struct head {
     uint64_t kind, size;       /* size: how many bytes follow */
 };

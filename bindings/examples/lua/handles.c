@@ -1,7 +1,7 @@
-/* What a script may do with handles.
+/* The calls of a script on handles.
 
-   A handle is a userdata with the name of a vertex. A script can't make one, and it can't see the name. What it may do with it,
-   the store answers at each call, in the name of the plug-in's worker. So a handle alone is no right.
+   A handle is a userdata with the name of a vertex. A script can't make one, and it can't see the name. At each call the store
+   decides, in the name of the plug-in's worker. So a handle alone is no right.
 
    The other way round a right is no longer than its handles. Each vertex has a count of its handles in this plug-in. The
    finalizer of the last handle gives up the rights over the vertex, and then the store's collector may free it. */
@@ -10,9 +10,9 @@
 #include <string.h>
 
 enum {
-    COMMAND_STEPS = 100,       /* what a command of the store charges a turn: it makes an entry in the journal */
-    POLICY_STEPS = 2000,       /* what a question to the policy charges */
-    COLLECT_STEPS = 20000,     /* what a collection of the state charges */
+    COMMAND_STEPS = 100,       /* the charge for a command of the store, which makes an entry in the journal */
+    POLICY_STEPS = 2000,       /* the charge for a question to the policy */
+    COLLECT_STEPS = 20000,     /* the charge for a collection of the state */
     MOST_NUMBERS = 64,         /* numbers in a log */
     MOST_IN_BOX = 32,          /* edges of a box that a get looks at */
     MOST_LINE = 500            /* bytes of a line that a script says */
@@ -102,7 +102,7 @@ bool deliver(struct plugin *plugin, uint64_t vertex) {
     return true;
 }
 
-/* ---- arguments, and what goes wrong */
+/* ---- arguments and errors */
 
 static uint64_t handle_at(lua_State *state, int argument) {
     return *(uint64_t *)luaL_checkudata(state, argument, handle_type);
@@ -136,8 +136,8 @@ static void write_denial(const tg_denial *why, char *text, size_t room) {
     }
 }
 
-/* Saves the entry of a command, and raises what isn't done as an error of the script. The word is the one that the script called. `why` is NULL for a call that is
-   never denied. */
+/* Saves the entry of a command, and raises what isn't done as an error of the script. The word is the name of the call of the
+   script. `why` is NULL for a call that is never denied. */
 static void done_or_raise(lua_State *state, const char *word, tg_status status, const tg_denial *why) {
     char text[TEXT_ROOM];
     save();
@@ -179,7 +179,7 @@ static int make(lua_State *state) {
     return 1;
 }
 
-/* handle:send(number) adds to a log, or writes to what is none. */
+/* handle:send(number) adds to a log, or writes to an object that is none. */
 static int handle_send(lua_State *state) {
     uint64_t worker = plugin_of(state)->worker, target = handle_at(state, 1), number = (uint64_t)luaL_checkinteger(state, 2);
     tg_denial why;
@@ -203,7 +203,7 @@ static int handle_read(lua_State *state) {
     return (int)count;
 }
 
-/* handle:rights() returns the letters of what the plug-in holds over the object. */
+/* handle:rights() returns the letters of the rights that the plug-in holds over the object. */
 static int handle_rights(lua_State *state) {
     char letters[9];
     tg_rights_text(rights_of(plugin_of(state)->worker, handle_at(state, 1)), letters, sizeof letters);
@@ -252,7 +252,7 @@ static int handle_lose(lua_State *state) {
     return 0;
 }
 
-/* box:put(handle, rights) lets the box hold rights over an object: who may take from the box may then take them. */
+/* box:put(handle, rights) lets the box hold rights over an object. A plug-in that may take from the box may then take them. */
 static int handle_put(lua_State *state) {
     uint64_t box = handle_at(state, 1), target = handle_at(state, 2), rights = rights_at(state, 3);
     tg_denial why;
@@ -284,14 +284,14 @@ static int handle_get(lua_State *state) {
     return (int)count;
 }
 
-/* handle == other: several handles may be to one object. */
+/* handle == other, because several handles may be to one object. */
 static int handle_equal(lua_State *state) {
     const uint64_t *one = luaL_testudata(state, 1, handle_type), *other = luaL_testudata(state, 2, handle_type);
     lua_pushboolean(state, one != NULL && other != NULL && *one == *other);
     return 1;
 }
 
-/* tostring(handle), from what the host keeps beside the vertex. */
+/* tostring(handle), from the resource that the host keeps beside the vertex. */
 static int handle_text(lua_State *state) {
     char text[KNOWN_ROOM];
     lua_pushstring(state, known_as(handle_at(state, 1), text, sizeof text));

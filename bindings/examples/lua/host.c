@@ -67,7 +67,7 @@ static void run_rounds(void) {
     }
 }
 
-/* Starts the plug-ins that the file has and those that it hasn't. */
+/* Starts the plug-ins that the file has, and the plug-ins that it doesn't have. */
 static void start_all(const struct words *words) {
     char file[FILE_ROOM];
     start_again(words->folder);

@@ -1,4 +1,4 @@
-/* What the files of the host share. docs/LUA.md says in which order to read them. */
+/* The parts that the files of the host share. docs/LUA.md says in which order to read them. */
 #ifndef HOST_H
 #define HOST_H
 
@@ -21,7 +21,7 @@ enum {
     TEXT_ROOM = 200            /* bytes of an error that a script gets */
 };
 
-/* A vertex and how many handles a plug-in has to it: those in its Lua state, and those that wait in its inbox. */
+/* A vertex and how many handles a plug-in has to it. They are in its Lua state, or wait in its inbox. */
 struct holding {
     uint64_t vertex;           /* or NONE: the place is free */
     unsigned handles;
@@ -68,7 +68,7 @@ extern struct plugin plugins[MOST_PLUGINS];
    the plug-in, or NULL if it didn't start, and then says why. */
 struct plugin *start_plugin(const char *name, const char *file, uint64_t number);
 
-/* Starts a plug-in anew after the host was killed, as the worker that it was. It has handles to what the worker holds. */
+/* Starts a plug-in anew after the host was killed, as the worker that it was. It has handles to all that the worker holds. */
 void restart_plugin(const char *name, const char *file, uint64_t number, uint64_t worker);
 
 /* Lets the script run until it waits, ends, fails or hangs. A plug-in that isn't waiting then leaves. */
@@ -97,7 +97,7 @@ void open_handles(lua_State *state);
 /* Puts a handle into the plug-in's inbox. Returns false if the plug-in has no room. */
 bool deliver(struct plugin *plugin, uint64_t vertex);
 
-/* Counts a vertex that the worker holds as held, without a handle: receive() makes the first one. There is a place for it. */
+/* Counts a vertex that the worker holds, without a handle. receive() makes the first handle. There is a place for it. */
 void hold_again(struct plugin *plugin, uint64_t vertex);
 
 /* ---- library.c */
@@ -121,7 +121,7 @@ bool is_safe(uint64_t holder, uint64_t vertex, uint64_t rights, char *text, size
 /* Makes room for one more resource. Returns false if there is no memory. */
 bool make_room(void);
 
-/* Keeps a resource beside a vertex that was just made: its name, who made it, and whether it is a log. There is room. */
+/* Keeps a resource beside a new vertex. It has its name, who made it, and whether it is a log. There is room. */
 void keep(uint64_t vertex, const char *name, const char *maker, bool is_of_log);
 
 /* Gives the object another name and maker, if a resource is kept for it. */
@@ -142,7 +142,7 @@ uint64_t collect(void);
 
 /* ---- file.c. Without a file these save nothing. */
 
-/* Opens the file, or makes it, and goes on from what it has. Returns the secret that the file has, or NONE. */
+/* Opens the file, or makes it, and goes on from its content. Returns the secret that the file has, or NONE. */
 uint64_t open_file(const char *name);
 
 /* Whether the file has a plug-in with this name, running or not. */
@@ -151,7 +151,8 @@ bool is_in_file(const char *name);
 /* Starts the plug-ins of the file anew whose workers are active. Their scripts are FOLDER/NAME.lua. */
 void start_again(const char *folder);
 
-/* Gives up what the host holds and shouldn't: what it took in the middle of a hand, and edges to workers that have left. */
+/* Gives up edges that the host holds and shouldn't. They are edges that it took in the middle of a hand, and edges to workers
+   that have left. */
 void tidy_host(uint64_t secret);
 
 /* Closes the file and removes it. */

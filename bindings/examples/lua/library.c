@@ -1,7 +1,7 @@
-/* What a script gets of Lua's own functions.
+/* Lua's own functions that a script gets.
 
    The hook runs only while Lua code runs, and never inside of a C function. So each function of this list takes a bounded time
-   by itself. What isn't in the list is left out:
+   by itself. A function that isn't in the list is left out:
 
    - load, dofile, require, string.dump: bytecode can do anything to the host's memory.
    - getmetatable, debug: they lead to the metatable of handles.
@@ -63,7 +63,7 @@ static int repeat(lua_State *state) {
     return 1;
 }
 
-/* A library, and the functions of it that a script gets: some as they are, others through a guard. */
+/* A library, and the functions of it that a script gets. Some are as they are in Lua, and others go through a guard. */
 struct part {
     const char *name;
     lua_CFunction library;
@@ -72,7 +72,7 @@ struct part {
     lua_CFunction guard;
 };
 
-/* Copies the functions with these names from the table at the top to the one below it, each through the guard unless that is
+/* Copies the functions with these names from the table at the top to the table below it, each through the guard unless that is
    NULL. */
 static void copy(lua_State *state, const char *const *names, lua_CFunction guard) {
     for (; *names != NULL; names++) {
@@ -93,7 +93,7 @@ static void push_part(lua_State *state, const struct part *part) {
     lua_pop(state, 1);
 }
 
-/* Texts have methods, as in ("x"):rep(3): those of the table at the top, in the place of all that Lua has. */
+/* Texts have methods, as in ("x"):rep(3). They are the functions of the table at the top, in the place of all that Lua has. */
 static void give_to_texts(lua_State *state) {
     lua_pushliteral(state, "");
     lua_getmetatable(state, -1);
@@ -115,7 +115,7 @@ void open_library(lua_State *state) {
                                          { "table", luaopen_table, none, of_table, over_plain_table },
                                          { "string", luaopen_string, of_string, repeated, repeat } };
     static const struct part base = { "", luaopen_base, of_base, none, NULL };
-    /* luaopen_base puts all of its functions into the global table, so another one takes its place. */
+    /* luaopen_base puts all of its functions into the global table, so another table takes its place. */
     push_part(state, &base);
     lua_pushcfunction(state, set_metatable);
     lua_setfield(state, -2, "setmetatable");

@@ -17,7 +17,7 @@ enum {
     REFUSED_STEPS = 1000       /* steps of a refused allocation, since Lua then collects all of the state */
 };
 
-/* What a script is made of. */
+/* The parts of a script. */
 struct source {
     const char *file;
     char *text;
@@ -226,7 +226,7 @@ void end_plugin(struct plugin *plugin, const char *why) {
     done(tg_leave(&store, plugin->worker, &edges), "tg_leave");
     done(tg_remove(&store, HOST, plugin->worker, TG_TAKE | TG_GRANT, NULL), "tg_remove");
     forget_rules(plugin->worker);
-    /* What finalizers of the state do from now on must not ask the store in the name of the worker. */
+    /* Finalizers of the state must not ask the store in the name of the worker from now on. */
     plugin->worker = NONE;
     if (plugin->state != NULL)
         lua_close(plugin->state);

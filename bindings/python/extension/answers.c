@@ -1,4 +1,4 @@
-/* What a call is answered, as objects of Python. */
+/* The answers of calls, as objects of Python. */
 #include "extension.h"
 
 /* Raises what a function of the package has made, and returns NULL. */

@@ -1,4 +1,4 @@
-/* What a call asks for: numbers, and arrays that the package has packed. */
+/* The arguments of a call, which are numbers, and arrays that the package has packed. */
 #include <string.h>
 
 #include "extension.h"

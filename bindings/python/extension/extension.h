@@ -3,10 +3,10 @@
    It is one of two back ends. `kovshenul/_backend.py` says what a back end is, and `kovshenul/_by_ctypes.py` is the other
    one. The package looks for the library, and gives this module the addresses of its functions.
 
-   Threads. A short call keeps the interpreter's lock from its last argument to its answer. So nothing comes between. A long
-   call takes the package's lock, and then gives the interpreter's lock up. Before a short call enters the library it waits
-   until no long call is there. While a thread is in the library it runs no code of Python: no handler or finalizer comes
-   between, and no call waits for another one with the package's lock in its hands. */
+   Threads. A short call keeps the interpreter's lock from its last argument to its answer. So nothing comes between. A long call
+   takes the package's lock, and then gives the interpreter's lock up. Before a short call enters the library it waits until no
+   long call is there. While a thread is in the library it runs no code of Python. So no handler or finalizer comes between, and
+   no call that has the package's lock waits for another call. */
 #ifndef KOVSHENUL_EXTENSION_H
 #define KOVSHENUL_EXTENSION_H
 
@@ -33,7 +33,7 @@ struct library {
 #undef FIELD
 };
 
-/* What the package gives to the module, each as its parameter of `ready` says. */
+/* The values that the package gives to the module, each as its parameter of `ready` says. */
 #define EACH_GIVEN(DO) DO(number_in) DO(refusal) DO(denied) DO(acquire) DO(release) DO(rights) DO(target) DO(record)
 
 struct given {
@@ -42,13 +42,13 @@ struct given {
 #undef FIELD
 };
 
-/* What the module keeps. Its types hold it, and each object of a type has its address. */
+/* The values that the module keeps. Its types hold it, and each object of a type has its address. */
 struct state {
     struct library library;
     struct given given;
     PyTypeObject *store_type;     /* of what an auditor or a view is given */
     newfunc make_tuple;           /* makes a tuple of a subclass */
-    bool is_ready;                /* whether the library and what is given are there */
+    bool is_ready;                /* whether the library and the given values are there */
     bool is_busy;                 /* whether a thread is in a long call. Who changes it has both locks */
     PyThreadState *thread;        /* of that thread, for as long as it is there */
 };
@@ -85,7 +85,7 @@ bool begin_long(struct state *state);
 /* Leaves a long call: takes the interpreter's lock, and gives the package's back. */
 bool end_long(struct state *state);
 
-/* ---- arguments.c: what a call asks for. Each returns whether it was right. If not, an exception is set. */
+/* ---- arguments.c, the arguments of a call. Each returns whether it was right. If not, an exception is set. */
 
 /* There are so many arguments. */
 bool has_words(Py_ssize_t count, Py_ssize_t wanted);
@@ -99,7 +99,7 @@ bool numbers_of(struct state *state, PyObject *const *words, Py_ssize_t count, u
 /* Items of one size that lie in a bytes object one after the other. They stay for as long as the object does. */
 bool items_of(PyObject *word, size_t size, const void **items, size_t *count);
 
-/* What an opening asks for: values, edges and limits. */
+/* The arguments of an opening, which are values, edges and limits. */
 struct opening {
     const tg_value *workers;
     const tg_edge *edges;
@@ -134,13 +134,13 @@ bool form_of(PyObject *const *words, struct form *form);
 /* The store that an argument is. */
 bool store_of(struct state *state, PyObject *word, struct store **store);
 
-/* ---- answers.c: what a call is answered, as a new object. NULL with an exception if there is no memory for it. */
+/* ---- answers.c, the answers of calls as new objects. NULL with an exception if there is no memory for it. */
 
 /* Raises the refusal with this status, and returns NULL. The worker that asked, or the right that was asked about, may be NULL. */
 PyObject *refused(struct state *state, tg_status status, const uint64_t *worker, const uint64_t *right);
 
-/* None after TG_DONE, or else the exception is raised: of a command whose worker and whose named vertices are the first numbers of
-   what it asked. */
+/* None after TG_DONE, or else the exception is raised. The worker and the named vertices of the command are the first numbers
+   that it asked with. */
 PyObject *decided(struct state *state, tg_status status, const tg_denial *denial, const uint64_t *asked, Py_ssize_t named);
 
 /* The number after TG_DONE, or else the refusal is raised. */
@@ -152,7 +152,7 @@ PyObject *targets_told(struct state *state, const tg_target *edges, uint64_t cou
 PyObject *record_told(struct state *state, const tg_record *record);
 PyObject *counts_told(const tg_counts *counts);
 
-/* ---- rows.c, outlooks.c: calls with several steps. */
+/* ---- rows.c and outlooks.c, calls with several steps. */
 
 /* The row of the list or the inspect that the store served last, of which these are the first edges. */
 PyObject *row_told(struct store *self, const tg_target *edges, uint64_t count);
@@ -165,7 +165,7 @@ PyObject *store_edges_to(PyObject *it, PyObject *const *words, Py_ssize_t count)
 PyObject *store_withdraw(PyObject *it, PyObject *const *words, Py_ssize_t count);
 PyObject *store_could(PyObject *it, PyObject *const *words, Py_ssize_t count);
 
-/* ---- store.c, auditor.c, view.c: the types. */
+/* ---- store.c, auditor.c and view.c, the types. */
 
 /* A method of a type, with arguments and with none. */
 #define WITH_WORDS(type, name) { #name, (PyCFunction)(void (*)(void))type##_##name, METH_FASTCALL, NULL },

@@ -8,7 +8,8 @@ static bool is_called(PyObject *function) {
 }
 
 bool wait_for_others(struct state *state) {
-    /* What is called here may run a finalizer, after which another thread may be in a long call. */
+    /* A function that is called here may run a finalizer, after which another thread may be in a
+       long call. */
     while (state->is_busy)
         if (!is_called(state->given.acquire) || !is_called(state->given.release))
             return false;

@@ -71,7 +71,8 @@ static bool reads_addresses(struct library *library, PyObject *addresses) {
     return true;
 }
 
-/* Keeps what is given in the place of what was given before. */
+/* Keeps the given value in the place of the value that was given
+   before. */
 static void keep(struct given *given, PyObject *words) {
 #define ONE(name) \
     do { \
@@ -123,7 +124,7 @@ static bool adds_type(PyObject *module, PyType_Spec *spec, PyTypeObject **kept) 
     return is_added;
 }
 
-/* Adds the names of the functions whose addresses are wanted. */
+/* Adds the names of the functions whose addresses are needed. */
 static bool adds_calls(PyObject *module) {
     PyObject *calls = PyTuple_New(CALLS);
     for (int call = 0; calls != NULL && call < CALLS; call++) {

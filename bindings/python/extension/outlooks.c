@@ -1,4 +1,4 @@
-/* What could come about: a question to a store, and its answer. */
+/* A question about the future to a store, and its answer. */
 #include "extension.h"
 
 /* A turn of an open answer: its record, and the numbers that a vertex stores at first. */
@@ -26,7 +26,7 @@ static PyObject *turns_told(struct state *state, tg_answer *answer, uint64_t cou
     return told;
 }
 
-/* What an open answer says: its number, how many names are lacking, and the turns. */
+/* The parts of an open answer. They are its number, how many names are lacking, and the turns. */
 static PyObject *outlook_told(struct state *state, tg_answer *answer) {
     uint64_t kind, names, count;
     tg_status status = state->library.answer_kind(answer, &kind);

@@ -108,8 +108,8 @@ PyObject *store_names(PyObject *it, PyObject *unused) {
     return told;
 }
 
-/* What is asked for names of vertices: who holds a right over a vertex, or who still holds some rights once they are withdrawn from
-   all but those to keep. */
+/* A call that is asked for names of vertices. It asks who holds a right over a vertex. Or it withdraws rights from all but the
+   names to keep, and asks who still holds some of them. */
 struct holders {
     bool withdraws;
     uint64_t words[2];
@@ -124,8 +124,8 @@ static tg_status ask_once(struct store *self, const struct holders *asked, uint6
     return library->who_holds(&self->place, asked->words[0], asked->words[1], names, room, count);
 }
 
-/* Asks with room for each vertex of the heap: one walk of the graph finds all of them. The call may be made twice. It runs without
-   the interpreter. The names are the caller's to free. */
+/* Asks with room for each vertex of the heap, so one walk of the graph finds all of them. The call may be made twice. It runs
+   without the interpreter. The names are the caller's to free. */
 static tg_status ask_holders(struct store *self, const struct holders *asked, uint64_t **names, uint64_t *count) {
     const struct library *library = &self->state->library;
     tg_counts counts;

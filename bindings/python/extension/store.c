@@ -65,7 +65,8 @@ static PyObject *touch(PyObject *it, call_on_target *call, PyObject *const *word
     return decided(self->state, status, &denial, asked, 2);
 }
 
-/* A denied hand has the denial of its take, which names who holds the rights, or of its grant, which names who is to hold them. */
+/* A denied hand has the denial of its take or of its grant. A take names who holds the rights, and a grant names who is to hold
+   them. */
 static PyObject *store_hand(PyObject *it, PyObject *const *words, Py_ssize_t count) {
     struct store *self = (struct store *)it;
     uint64_t asked[MOST_ASKED], removed = 0;

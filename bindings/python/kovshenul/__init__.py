@@ -9,16 +9,16 @@ A command that the rules don't allow raises Denied, whose cause says which check
 are an Error. A number that isn't from 0 to 2^64 - 1 raises OverflowError, and an argument that is no number raises TypeError.
 Nothing happened then.
 
-`entry` and `journal` read a store's journal, and `forget` gives it up. An Auditor replays it before that, part after part. Another
-one goes on from its Snapshot. `Store.resume` opens a store that goes on from the entries of another process, and `Store.reopen` one
-that goes on from a Snapshot. `opening_text`, the `str` of each entry and `end_text` are the text that the program tgaudit reads. `kovshenul.journal` has the types of what an entry
-says. `kovshenul.outlook` has the types of what `could` answers about the future. A View, which `view` opens, answers many such
-questions. The module `kovshenul.plain` is a model of the store in plain Python, to test a host against. `kovshenul.database` keeps
-entries in a database of the host.
+`entry` and `journal` read a store's journal, and `forget` gives it up. An Auditor replays it before that, part after part. Another auditor
+goes on from its Snapshot. `Store.resume` opens a store that goes on from the entries of another process, and `Store.reopen` one that goes
+on from a Snapshot. `opening_text`, the `str` of each entry and `end_text` are the text that the program tgaudit reads. `kovshenul.journal`
+has the types of the parts of an entry. `kovshenul.outlook` has the types of what `could` answers about the future. A View, which `view`
+opens, answers many such questions. The module `kovshenul.plain` is a model of the store in plain Python, to test a host against.
+`kovshenul.database` keeps entries in a database of the host.
 
-Any thread may call, and so may a finalizer and a signal's handler. The module has one lock, so all calls come one after the
-other, also those on different stores. The library is the one that the variable KOVSHENUL_LIBRARY names. Otherwise it is the one
-beside this module, or the one that the system finds.
+Any thread may call, and so may a finalizer and a signal's handler. The module has one lock, so all calls come one after the other, also
+those on different stores. The library is the file that the variable KOVSHENUL_LIBRARY names. Otherwise it is the file beside this module,
+or the library that the system finds.
 
 An extension module calls the library, if one was built for this Python. Otherwise ctypes does. All calls do the same either way.
 `BACKEND` says which it is, `extension` or `ctypes`. The variable KOVSHENUL_CTYPES=1 makes the package use ctypes.

@@ -1,4 +1,5 @@
-"""What a call of the model in plain Python is asked for: numbers, values and edges. The store looks at them in the same order."""
+"""The arguments of a call of the model in plain Python, which are numbers, values and edges. The store looks at them in the same
+order."""
 from __future__ import annotations
 
 from dataclasses import replace
@@ -30,7 +31,7 @@ def edges_in(edges: Iterable[Pair]) -> List[Pair]:
 
 
 def stored_in(value: Value) -> Stored:
-    """What a vertex stores of which this is the first value."""
+    """The value of a vertex of which this is the first value."""
     if isinstance(value, Log):
         return Stored("log", (), number_in(32, value.most))
     for law, word in LAWS.items():

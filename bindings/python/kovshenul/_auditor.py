@@ -44,7 +44,7 @@ class Auditor(Held):
         return auditor
 
     def snapshot(self) -> Snapshot:
-        """Takes a snapshot of what it has come to, at its place. It raises BadEntry after a bad entry."""
+        """Takes a snapshot of the graph at its place. It raises BadEntry after a bad entry."""
         return Snapshot(self._place.snapshot().decode("ascii"))
 
     def feed(self, store: Store) -> int:

@@ -1,19 +1,19 @@
-"""The back end: what calls the library. There are two, and one is chosen when the package is imported.
+"""The back end, which calls the library. There are two, and one is chosen when the package is imported.
 
-The extension module (`_extension`, in bindings/python/extension) is chosen where it was built for this Python. Else ctypes
-is (`_by_ctypes`), and also where the variable KOVSHENUL_CTYPES is set, to anything but 0. `BACKEND` names the choice.
+The extension module (`_extension`, in bindings/python/extension) is chosen if it was built for this Python. Else ctypes
+is (`_by_ctypes`), and also if the variable KOVSHENUL_CTYPES is set, to anything but 0. `BACKEND` names the choice.
 
-A back end is a module with three classes, Store, Auditor and View. An object of one is a place of the library, closed at first.
-It has a method for each call of the class of that name in the package, with the same name and the same numbers, and `is_open`.
-A method looks at its numbers, keeps the calls apart, and raises what wasn't served. What is not a number is packed before (`_packed`).
-An answer is given in numbers, lists of numbers and tuples of these:
+A back end is a module with three classes, Store, Auditor and View. An object of one is a place of the library, closed at first. It has
+a method for each call of the class of that name in the package, with the same name and the same numbers, and `is_open`. A method looks
+at its numbers, keeps the calls apart, and raises what wasn't served. A value that is no number is packed before (`_packed`). An answer
+is given in numbers, lists of numbers and tuples of them:
 
 - a command as its call does, with the edges of a row as Targets;
 - an entry as a Record, the numbers that were stored or read, and the edges that were shown; one to go on from is packed so;
 - `could` as the number of the answer, how many names are lacking, and for each turn a Record and the numbers of its value;
 - a census as its ten numbers, a label as its bits, and the `could` of a view as its number.
 
-All else is in the package once: the types, the exceptions and their texts, the pages of help, and the lock.
+All else is in the package once. It is the types, the exceptions and their texts, the pages of help, and the lock.
 """
 from __future__ import annotations
 
@@ -31,10 +31,10 @@ from .journal import Record
 
 
 class Place(Protocol):
-    """What the objects of the three classes have in common."""
+    """The parts that the objects of the three classes have in common."""
 
     def close(self) -> None:
-        """Gives all memory back. What is closed may be closed again."""
+        """Gives all memory back. A closed object may be closed again."""
 
     def is_open(self) -> bool:
         """Whether it is open."""

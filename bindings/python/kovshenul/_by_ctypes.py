@@ -43,7 +43,8 @@ UNSERVED = 2**64 - 1
 SHOWING = [number for number, deed in DEEDS.items() if deed in (Listed, Inspect)]
 SHOWN = next(number for number, reply in REPLIES.items() if reply is Edges)
 
-# A target of a pair, and rights by their bits, with no call of Python's in between, and the type that a method of Store hides.
+# A target of a pair, and rights by their bits, with no call of Python's in between. After them comes the type that a method of Store
+# hides.
 target_of = partial(tuple.__new__, Target)
 rights_of = RIGHTS.__getitem__
 list_of = list
@@ -106,7 +107,7 @@ class Entry(ctypes.Structure):
 
 
 class Counts(ctypes.Structure):
-    """What the heap has, and how many entries and collections were made."""
+    """The sizes of the heap, and how many entries and collections were made."""
 
     _fields_ = [
         ("vertices", Number),
@@ -123,8 +124,8 @@ class Counts(ctypes.Structure):
 
 
 def _declared(library: ctypes.CDLL) -> ctypes.CDLL:
-    """The library, with what each function answers. They take what is made ready for them: addresses by `byref`, and numbers as a
-    `Number`, since what ctypes makes of a plain int for each call takes longer than the call."""
+    """The library, with the type of each function's answer. They take what is made ready for them: addresses by `byref`, and numbers
+    as a `Number`, since what ctypes makes of a plain int for each call takes longer than the call."""
     for name in CALLS:
         getattr(library, f"tg_{name}").restype = c_uint32
     return library
@@ -137,11 +138,11 @@ library = _declared(library)
 
 
 class _Room:
-    """What a call asks, and where the library writes what it answers."""
+    """The arguments of a call, and the memory to which the library writes its answer."""
 
     def __init__(self) -> None:
-        # What is put into `asked` must be a number in its range. A call takes it by the cells, which are the same memory: to have
-        # ctypes make an argument of a plain number takes three times as long.
+        # A value that is put into `asked` must be a number in its range. A call takes it by the cells, which are the same memory. If ctypes
+        # makes an argument of a plain number, the call takes three times as long.
         self.asked = array("Q", [0] * MOST_ASKED)
         cells = (Number.from_buffer(self.asked, 8 * at) for at in range(MOST_ASKED))
         self.first, self.second, self.third, self.fourth = cells
@@ -155,13 +156,13 @@ class _Room:
         self.state_at = byref(self.state)
         self.record = Entry()
         self.record_at = byref(self.record)
-        # While a list or an inspect uses the room: its edges once they were read from its entry, and the room of the call
-        # in the middle of which it was made.
+        # While a list or an inspect uses the room, it has its edges once they were read from its entry. It also has the room of the
+        # call in whose middle it was made.
         self.row: Optional[Array[c_uint64]] = None
         self.outer: Optional[_Room] = None
 
     def why(self, named: int) -> Tuple[Numbers, Tuple[int, ...]]:
-        """What the denial says, of a command that named so many vertices."""
+        """The exception for the denial of a command that named so many vertices."""
         return self.denial.numbers(), tuple(self.asked[:named])
 
     def entry(self, store_at: object, at: Number) -> Tuple[int, Array[c_uint64]]:
@@ -179,7 +180,7 @@ class _Room:
         return status, edges
 
     def entry_told(self, edges: Array[c_uint64]) -> Tuple[Record, List[int], List[Target]]:
-        """The entry that was read, whose edges are these."""
+        """The entry that was read, with these edges."""
         numbers, pairs = self.state[: self.record.number_count], edges[: 2 * self.record.edge_count]
         return self.record.record(), numbers, _targets(pairs)
 
@@ -222,7 +223,7 @@ def _targets(numbers: Sequence[int]) -> List[Target]:
 
 
 def _opening(values: bytes, edges: bytes, limits: bytes) -> Tuple[object, ...]:
-    """What an opening asks for, as the library takes it."""
+    """The arguments of an opening, as the library takes them."""
     return values, c_size_t(len(values) // VALUE_SIZE), edges, c_size_t(len(edges) // EDGE_SIZE), limits
 
 
@@ -239,7 +240,7 @@ def _raise(status: int, numbers: Numbers, vertices: Tuple[int, ...]) -> NoReturn
 
 
 class _Place:
-    """What is in a place of the library."""
+    """A value in a place of the library."""
 
     __slots__ = ("_place", "_at")
     _give_back: ClassVar[Function]
@@ -510,7 +511,7 @@ class Store(_Place):
         self._room = shown
 
     def read_rows(self) -> None:
-        """Reads the row of the call in the middle of which this one is made, if it was served and has not read its row yet."""
+        """Reads the row of the call in whose middle this call is made, if that call was served and has not read its row yet."""
         shown = self._shown
         while shown is not None:
             if shown.has_unread_row():
@@ -623,7 +624,7 @@ class _Answer(_Place):
     _give_back = staticmethod(short.tg_answer_close)
 
     def told(self) -> Tuple[int, int, List[Tuple[Record, List[int]]]]:
-        """What an open answer says."""
+        """The outlook of an open answer."""
         kind, names, turns = (self._count(it) for it in (short.tg_answer_kind, short.tg_answer_names, short.tg_answer_turns))
         return kind, names, [self._turn(at) for at in range(turns)]
 

@@ -14,7 +14,7 @@ from typing import Any, ClassVar, Dict, Iterator, List, NamedTuple, Optional, Se
 from ._library import short_of
 from ._refusals import Error
 
-# What a row holds when it is read: each column as text, or None.
+# The columns of a row when it is read, each as text, or None.
 Row = Tuple[Optional[str], ...]
 
 # The greatest integer that both databases keep in 64 bits.
@@ -22,8 +22,8 @@ MOST_SIGNED = 2**63 - 1
 
 
 class BadSettings(Error, ValueError):
-    """The connection or its server is set so that a crash may take back what was committed. The text says which setting it is,
-    and what to set. Nothing was changed."""
+    """The connection or its server is set so that a crash may take back what was committed. The text names the setting and the
+    right value. Nothing was changed."""
 
 
 class InTransaction(Error, RuntimeError):
@@ -45,7 +45,7 @@ class Database:
     """A connection to a database of one kind."""
 
     columns: ClassVar[Columns]
-    # What represents a value in a statement.
+    # The text that represents a value in a statement.
     mark: ClassVar[str]
 
     def __init__(self, connection: Any) -> None:
@@ -64,16 +64,16 @@ class Database:
         raise NotImplementedError
 
     def must_be_same(self) -> None:
-        """Raises Ended if the transaction isn't the one that `begin` began, or if it has failed."""
+        """Raises Ended if the transaction isn't the transaction that `begin` began, or if it has failed."""
         raise NotImplementedError
 
     def must_last(self, standby: bool) -> None:
-        """Raises BadSettings if a transaction that is committed now may be lost: by a crash of the machine, and if it is asked
-        for also by the loss of the server."""
+        """Raises BadSettings if a crash of the machine may lose a transaction that is committed now. If it is asked for, it
+        looks at the loss of the server too."""
         raise NotImplementedError
 
     def commit(self) -> None:
-        """Commits the transaction. What it raises doesn't say whether the transaction was committed."""
+        """Commits the transaction. Its exceptions don't say whether the transaction was committed."""
         raise NotImplementedError
 
     def roll_back(self) -> None:
@@ -149,7 +149,7 @@ class Sqlite(Database):
     # A COMMIT or a ROLLBACK of the host ends the savepoint with this name.
     SAVEPOINT = "kovshenul_of_journal"
     SYNCHRONOUS = ("OFF", "NORMAL", "FULL", "EXTRA")
-    # What `synchronous` has to be, by the journal mode of the file. In the mode DELETE only EXTRA syncs the folder.
+    # The value that `synchronous` has to have, by the journal mode of the file. In the mode DELETE only EXTRA syncs the folder.
     ENOUGH: Dict[str, Tuple[str, ...]] = {
         "wal": ("FULL", "EXTRA"),
         "delete": ("EXTRA",),

@@ -1,4 +1,4 @@
-"""What the model in plain Python answers of what could come about. It has the closure of `_rules`, and the words of `outlook`."""
+"""The model in plain Python answers questions about the future. It has the closure of `_rules`, and the words of `outlook`."""
 from __future__ import annotations
 
 from functools import cached_property
@@ -44,7 +44,7 @@ class Foresight:
         return self._could(tuple(_turn(*turn) for turn in self.future.turns(x, right, y)))
 
     def _could(self, turns: Tuple[outlook.Turn, ...]) -> Outlook:
-        """What is answered if these turns do it."""
+        """The answer if these turns do it."""
         spawns = sum(isinstance(turn.deed, Spawn) for turn in turns)
         makings = sum(isinstance(turn.deed, Create) for turn in turns) + spawns
         lacking = self.graph.made + makings - self.graph.limit
@@ -54,7 +54,7 @@ class Foresight:
 
 
 def _turn(worker: int, command: str, words: Tuple[int, ...]) -> outlook.Turn:
-    """A turn of the closure. What it makes stores a cell."""
+    """A turn of the closure. Its objects and subjects store a cell."""
     *named, rights = words
     if command in MOVES:
         return outlook.Turn(worker, MOVES[command](*named, Rights(rights)))

@@ -11,8 +11,8 @@ from .journal import Entry
 
 
 class NoTransaction(Error, RuntimeError):
-    """A command was asked for outside of a transaction of the journal, or by another thread than the one with the transaction.
-    The store is as it was."""
+    """A command was asked for outside of a transaction of the journal, or by a thread that doesn't have the transaction. The
+    store is as it was."""
 
 
 # The commands of a store, each of which makes an entry.
@@ -39,7 +39,7 @@ QUESTIONS = ("census", "could", "edges_to", "entries", "entry", "label", "names"
 
 
 class Guard:
-    """Who may ask a store for what. During a transaction one thread has it."""
+    """Which thread may ask a store for which calls. During a transaction one thread has it."""
 
     def __init__(self) -> None:
         self.thread: Optional[int] = None

@@ -1,4 +1,4 @@
-"""What the library holds for its caller. It is open or closed, stays where it is, and is given back once."""
+"""A value that the library holds for its caller. It is open or closed, stays where it is, and is given back once."""
 from __future__ import annotations
 
 from typing import ClassVar, NoReturn, Type, TypeVar
@@ -11,7 +11,7 @@ Own = TypeVar("Own", bound="Held")
 
 
 class Held:
-    """What is in a place of the library. `close`, or leaving its `with`, gives its memory back. Any thread may call."""
+    """A value in a place of the library. `close`, or leaving its `with`, gives its memory back. Any thread may call."""
 
     __slots__ = ("_place", "__weakref__")
 
@@ -26,7 +26,7 @@ class Held:
         return held
 
     def close(self) -> None:
-        """Gives all memory back. What is closed may be closed again."""
+        """Gives all memory back. A closed value may be closed again."""
         self._place.close()
 
     @property
@@ -56,7 +56,7 @@ class Held:
 
 
 def place_of(kind: str, it: object) -> Place:
-    """The place of a store, or of another kind of what is held."""
+    """The place of a store, or of another value that the library holds."""
     if not isinstance(it, Held) or it._named != f"a {kind}":
         raise TypeError(f"a {kind} is wanted, and not {short_of(it)}")
     return it._place

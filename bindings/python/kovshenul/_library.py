@@ -26,7 +26,7 @@ def number_in(bits: int, it: int) -> int:
 
 
 def _loaded(kind: Type[ctypes.CDLL]) -> ctypes.CDLL:
-    """The library that the variable names, else the one beside this file, else the one that the system finds."""
+    """The library that the variable names, else the file beside this module, else the library that the system finds."""
     beside = Path(__file__).with_name(NAME)
     named = os.environ.get("KOVSHENUL_LIBRARY")
     path = named or (str(beside) if beside.exists() else NAME)
@@ -50,7 +50,7 @@ library = _loaded(ctypes.CDLL)
 
 
 class PlaceOfC(ctypes.Structure):
-    """A store, or none where all of it is zero; an auditor, a snapshot, an answer and a view are held in the same way."""
+    """A store, or none if all of it is zero. An auditor, a snapshot, an answer and a view are held in the same way."""
 
     _fields_ = [("is_open", ctypes.c_bool), ("at", ctypes.c_void_p)]
 
@@ -61,7 +61,7 @@ def address_of(name: str) -> int:
 
 
 def text_of(status: int) -> str:
-    """What a status says."""
+    """The outcome that a status reports."""
     return library.tg_status_text(status).decode()
 
 

@@ -1,4 +1,4 @@
-"""Reads the line of an entry, as `str` of the entry writes it. One entry has one line: a number with a leading zero, or rights in
+"""Reads the line of an entry, as `str` of the entry writes it. One entry has one line. A number with a leading zero, or rights in
 another order, make no line."""
 from __future__ import annotations
 
@@ -34,13 +34,13 @@ def _rights(word: str) -> Rights:
 
 
 def _value(word: str) -> Value:
-    """What a vertex stores at first, as `s40`."""
+    """The value that a vertex stores at first, as `s40`."""
     return LAW_OF[word[:1]](_number(word[1:]))
 
 
 Reader = Callable[[str], object]
 
-# The deeds: the type of each, and its words in their order, by the names of their columns and with what reads them.
+# The type of each deed. Its words come in their order, by the names of their columns, each with the function that reads it.
 DEEDS: Dict[str, Tuple[Callable[..., Deed], Dict[str, Reader]]] = {
     "take": (journal.Take, {"via": _number, "target": _number, "rights": _rights}),
     "grant": (journal.Grant, {"via": _number, "target": _number, "rights": _rights}),
@@ -57,8 +57,8 @@ DEEDS: Dict[str, Tuple[Callable[..., Deed], Dict[str, Reader]]] = {
 
 
 def words_of(line: str) -> Dict[str, str]:
-    """The words of a line under the names of their columns: `worker`, `deed` and `reply`, and those of `via`, `target`,
-    `rights` and `value` that the deed has. It raises a ValueError or a LookupError if the line has other words."""
+    """The words of a line under the names of their columns. These are `worker`, `deed` and `reply`, and of `via`, `target`,
+    `rights` and `value` the columns that the deed has. It raises a ValueError or a LookupError if the line has other words."""
     asked, _, reply = line.partition(" = ")
     worker, deed, *rest = asked.split(" ")
     words = zip(DEEDS[deed][1], rest, strict=True)
@@ -77,7 +77,7 @@ def entry_of_line(line: str) -> Entry:
 
 
 def _reply(deed: str, words: List[str]) -> Reply:
-    """What was answered to a deed."""
+    """The reply to a deed."""
     kind, *rest = words
     if kind == "denied":
         return _denial(*rest)

@@ -1,4 +1,5 @@
-"""What the host says of its vertices: names for people, and whom it trusts. It is kept beside the store, and changes no reply."""
+"""Marks of the host on its vertices, which are names for people, and whom it trusts. They are kept beside the store, and change no
+reply."""
 from __future__ import annotations
 
 from typing import Dict, Iterable, List, Mapping, Optional, Set, Union
@@ -15,7 +16,7 @@ Names = Mapping[int, str]
 # The fields of a deed and of a reply that are vertices.
 VERTICES = ("via", "target", "name")
 
-# What has a text with names.
+# A value that has a text with names.
 Named = Union[int, Denied, journal.Denied, Entry, Turn]
 
 
@@ -93,7 +94,7 @@ class Marked:
 
 
 def text_of(it: Named, names: Names) -> str:
-    """The text of what the store told, with names beside the numbers."""
+    """The text of an answer of the store, with names beside the numbers."""
     if isinstance(it, Denied):
         return str(Denied(*it.args[:-1], vertices=it.vertices, names=names))
     if isinstance(it, journal.Denied):
@@ -108,7 +109,7 @@ def text_of(it: Named, names: Names) -> str:
 
 
 def _asked(worker: int, deed: Deed, names: Names) -> str:
-    """Who asked, and for what."""
+    """The worker that asked, and its deed."""
     return " ".join([shown(worker, names), type(deed).__name__.lower(), *_words(vars(deed), names)])
 
 
@@ -126,7 +127,7 @@ def _words(fields: Mapping[str, object], names: Names) -> Iterable[str]:
 
 
 def _answered(reply: Reply, names: Names) -> str:
-    """What was answered."""
+    """The reply."""
     if isinstance(reply, journal.Denied):
         return f"denied {_cause(reply, names)}"
     if isinstance(reply, (journal.VerticesFull, journal.WorkersFull)):

@@ -1,4 +1,5 @@
-"""What a call is given as bytes: numbers that lie one after the other, as the library reads them. Each must be in its range."""
+"""Arguments of a call as bytes. They are numbers that lie one after the other, as the library reads them. Each must be in its
+range."""
 from __future__ import annotations
 
 from array import array
@@ -26,7 +27,7 @@ def edges_in(edges: Iterable[Tuple[int, int, int]]) -> bytes:
 
 
 def value_in(value: Value) -> bytes:
-    """What a vertex stores at first."""
+    """The value that a vertex stores at first."""
     try:
         return value._packed
     except AttributeError:
@@ -36,7 +37,7 @@ def value_in(value: Value) -> bytes:
 def opening_in(
     workers: Iterable[Value], edges: Iterable[Tuple[int, int, int]], limits: Tuple[int, int, int]
 ) -> Tuple[bytes, bytes, bytes]:
-    """What an opening asks for: values, edges and limits."""
+    """The arguments of an opening, which are values, edges and limits."""
     return b"".join([value_in(value) for value in workers]), edges_in(edges), limits_in(limits)
 
 

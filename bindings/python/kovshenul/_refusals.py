@@ -12,19 +12,19 @@ CAUSES = ("not distinct", "missing", "not log")
 
 MISSING = CAUSES.index("missing")
 
-# What a denial says that is of no rights.
+# The texts of denials that are of no rights.
 SENTENCES = {"not distinct": "two vertices that must differ are one", "not log": "the target stores no log"}
 
 
 # The names of a store to which the host gave none.
 NO_NAMES: Mapping[int, str] = {}
 
-# What the library says of a denial in numbers: rule, cause, edge from and to, and rights.
+# The numbers of a denial from the library, which are rule, cause, edge from and to, and rights.
 Numbers = Tuple[int, int, int, int, int]
 
 
 def told_by(denial: Numbers) -> Tuple[str, str, Optional[Tuple[int, int]], Rights]:
-    """What the numbers of a denial say: the rule, the cause, and where rights are missing the edge and those."""
+    """The meaning of the numbers of a denial. It is the rule, the cause, and if rights are missing the edge and these rights."""
     rule, cause, source, target, rights = denial
     edge = (source, target) if cause == MISSING else None
     return RULES[rule], CAUSES[cause], edge, RIGHTS[rights]
@@ -37,7 +37,7 @@ def shown(vertex: int, names: Mapping[int, str]) -> str:
 
 
 class Error(Exception):
-    """What a store raises: Denied, or a Refused."""
+    """An exception of a store, which is Denied or a Refused."""
 
 
 class Denied(Error, PermissionError):
@@ -45,8 +45,8 @@ class Denied(Error, PermissionError):
 
     `rule` and `cause` are words of RULES and CAUSES. If the cause is `missing`, `rights` are the missing rights, on the edge from
     `edge[0]` to `edge[1]`. Otherwise there is no edge. The cause is `not log` if the target of an append stores no log.
-    `vertices` are those that the command named: the worker, for a take or a grant the one between, and the target. `names` has
-    the names of these vertices that the host gave by `set_name`, for the text of the denial.
+    `vertices` are the vertices that the command named. They are the worker and the target, and between them the vertex `via` of a
+    take or a grant. `names` has the names of these vertices that the host gave by `set_name`, for the text of the denial.
     """
 
     def __init__(
@@ -150,7 +150,7 @@ class NoSuchWorker(Refused, LookupError):
 
 
 class BadRights(Refused, ValueError):
-    """No right, or a bit that is no right; several rights, where one is asked about."""
+    """No right, or a bit that is no right. Or several rights, if one is asked about."""
 
     status = 64
 
@@ -188,8 +188,8 @@ class BadEdge(Refused, ValueError):
 
 
 class BadValues(Refused, ValueError):
-    """An entry to go on from that no store makes, as one with an empty set of rights; a text that is not that of a snapshot. Of an
-    opening it is kept: no value gives it."""
+    """An entry to go on from that no store makes, as an entry with an empty set of rights. Or a text that is not the text of a snapshot.
+    For an opening it is kept, and no value raises it."""
 
     status = 83
 
@@ -208,8 +208,8 @@ class BadPlace(Refused, IndexError):
 
 
 class NotWhole(Refused):
-    """The journal hasn't all entries since the opening, so that they can't be audited: some were given up, or the store goes on from
-    a snapshot."""
+    """The journal doesn't have all entries since the opening, so they can't be audited. Some were given up, or the store goes on from a
+    snapshot."""
 
     status = 98
 
@@ -223,12 +223,12 @@ class NotAudited(Refused):
 BY_STATUS = {kind.status: kind for kind in Refused.__subclasses__()}
 
 
-# What may be asked about: one right, as a number.
+# A right that may be asked about, as a number.
 SINGLE = [int(right) for right in Rights]
 
 
 def refusal(status: int, worker: Optional[int] = None, right: Optional[int] = None) -> Refused:
-    """The refusal with this status, of what this worker asked for, or of a question about this right."""
+    """The refusal with this status, of a call of this worker, or of a question about this right."""
     kind = BY_STATUS.get(status, Refused)
     if kind is NoSuchWorker and worker is not None:
         return kind(status, f"no such worker: no active subject has the name {index(worker)}")

@@ -1,4 +1,4 @@
-"""The rules of the store, in plain Python: which commands are served, what they change, and what is answered.
+"""The rules of the store, in plain Python. They say which commands are served, what they change, and what is answered.
 
 This is the take-grant model (Lipton and Snyder 1977), with the store's own commands beside take, grant, create and remove.
 `kovshenul.plain` makes a store of it. The file imports no other file of the package, so it needs no library for C.
@@ -41,7 +41,7 @@ class Full(Exception):
 
 @dataclass(frozen=True)
 class Stored:
-    """What a vertex stores: a law (`cell`, `sum`, `max` or `log`), its state, and of a log the most numbers that it keeps."""
+    """The value of a vertex. It has a law (`cell`, `sum`, `max` or `log`), its state, and for a log the most numbers that it keeps."""
 
     law: str
     state: Tuple[int, ...]
@@ -65,7 +65,7 @@ class Stored:
 
 
 class Graph:
-    """A protection graph: who holds which rights over whom, and what each vertex stores.
+    """A protection graph. It says who holds which rights over whom, and which value each vertex stores.
 
     The vertices are the numbers below `made`, and at most `limit` may ever be made. The subjects issue commands.
     """
@@ -135,7 +135,7 @@ class Graph:
         if y >= self.made or self.values[y].law != "log":
             raise Denial(rule, "not log")
 
-    # ---- the commands of x: first the checks in their order, then what changes or is answered
+    # ---- the commands of x, with the checks in their order, and then the change or the answer
 
     def take(self, x: int, y: int, z: int, rights: int) -> None:
         """x takes rights over z that y has."""
@@ -187,7 +187,7 @@ class Graph:
         return self.row(x)
 
     def retire(self, x: int) -> None:
-        """x is a subject no more. Its edges stay, and so do those that lead to it."""
+        """x is a subject no more. Its edges stay, and so do the edges that lead to it."""
         self.subjects.remove(x)
 
     def create(self, x: int, rights: int, value: Stored) -> int:
@@ -214,7 +214,7 @@ class Graph:
     # ---- rights that are handed on, by several commands that are done completely or left undone
 
     def hand(self, x: int, giver: int, taker: int, z: int, rights: int) -> int:
-        """x takes rights over z from the giver, grants them to the taker, and removes those that it lacked, which are the answer."""
+        """x takes rights over z from the giver, grants them to the taker, and removes the rights that it lacked, which are the answer."""
         lacked = rights & ~self.label(x, z)
         self.take(x, giver, z, rights)
         try:
@@ -243,8 +243,8 @@ class Future:
     """All that those who act can bring about, by a closure.
 
     Each of them makes two objects and a subject. Then they and the new subjects take and grant for as long as that adds a right. A right
-    that is missing at the end never comes: a further object or subject could do what those of its maker did, and nothing else. There are
-    two objects so that one may represent x and the other y.
+    that is missing at the end never comes. A further object or subject could do only the turns that its maker's own objects or subjects
+    did. There are two objects, so that the first may represent x and the second y.
 
     The closure is a run of the rules, which shows the turns by which a right comes. It has as many names and subjects as it needs, with
     one exception. Nobody is spawned if 64 subjects are active and one of them acts, because nobody else can retire.

@@ -1,4 +1,4 @@
-"""A snapshot: what an auditor has come to, from which another one goes on. It is kept as its text.
+"""A snapshot of the graph at an auditor's place, from which another auditor goes on. It is kept as its text.
 
 The library reads each text, and its reader is proved. The parts of a snapshot are read here, from a text that the library has accepted.
 """
@@ -19,7 +19,7 @@ UNREAD = "line {}: not as it is due in the text of a snapshot, which begins with
 
 
 class Vertex(NamedTuple):
-    """A vertex of a snapshot. `value` has its law: it makes such a vertex. `numbers` are what the vertex stores, as `Store.read`
+    """A vertex of a snapshot. `value` has its law, and makes a vertex like it. `numbers` are what the vertex stores, as `Store.read`
     returns them. A Log begins empty, so only `numbers` say what a log stores."""
 
     name: int
@@ -29,8 +29,8 @@ class Vertex(NamedTuple):
 
 @dataclass(frozen=True)
 class Snapshot:
-    """A snapshot of a graph, at a place of its history: the active workers, what they reach with what is stored there, and how many
-    entries came before. `Auditor.snapshot` takes one, and `Auditor.reopen` goes on from it.
+    """A snapshot of a graph, at a place of its history. It has the active workers, the vertices that they reach with their numbers, and how
+    many entries came before. `Auditor.snapshot` takes one, and `Auditor.reopen` goes on from it.
 
     `subjects`, `vertices` and `edges` yield what it shows. Its text has a line for each thing that is shown, and no line feed after the last of them. One graph has one text at a place, so
     equal snapshots are of the same graph. `Snapshot(text)` raises BadValues if no snapshot has the text. The exception's `line` is
@@ -106,7 +106,7 @@ class Snapshot:
         return int(made), int(limit), int(entries)
 
     def _lines(self, word: str) -> Iterator[Tuple[str, ...]]:
-        """What follows the word in each line that begins with it."""
+        """The rest of each line that begins with the word."""
         return (tuple(line.split(" ")[1:]) for line in self.text.split("\n") if line.startswith(word))
 
     def _packed(self) -> bytes:
@@ -115,7 +115,7 @@ class Snapshot:
 
 
 def _stored_by(text: str) -> Tuple[Value, Tuple[int, ...]]:
-    """The law of a vertex and its numbers, by their text: `s42`, or `l2:7,8` for a log of at most two."""
+    """The law of a vertex and its numbers, by their text, as `s42`, or `l2:7,8` for a log of at most two."""
     law, (first, _, rest) = LAWS[text[0]], text[1:].partition(":")
     if law is Log:
         return Log(int(first)), tuple(int(number) for number in rest.split(",") if number)

@@ -60,12 +60,12 @@ class Store(Held, Marked):
         entries: Iterable[Entry],
         trusted: Iterable[int] = (),
     ) -> Own:
-        """Opens a store that goes on from the entries of another one, which was opened with the same workers, edges and
+        """Opens a store that goes on from the entries of another store, which was opened with the same workers, edges and
         `max_vertices`. They begin at the first entry.
 
-        The store does the deed of each entry again, and compares the replies. So nobody has to believe the entries. They are a
-        legal history of this opening. The store then gives each later reply as the other one would. It raises what `go_on`
-        raises, and the store is closed then. Entries have no marks of the host: `trusted` are workers after the last entry.
+        The store does the deed of each entry again, and compares the replies. So nobody has to believe the entries. They are a legal
+        history of this opening. The store then gives each later reply as the other one would. It raises what `go_on` raises, and the
+        store is closed then. Entries have no marks of the host, so `trusted` names workers after the last entry.
         """
         store = cls(workers, edges, limits)
         try:
@@ -79,10 +79,11 @@ class Store(Held, Marked):
     def go_on(self, at: int, entries: Iterable[Entry]) -> None:
         """Goes on from the entries of another store, of which the first has this place. Any store may, also one that took commands.
 
-        The `at` of what it raises is the place of the entry at which it stopped. It raises BadValues if no store makes such an
-        entry, and BadPlace if it isn't the next. It raises BadEntry if the entry isn't legal, because it was altered or is of
-        another opening. The store is closed then. It raises OutOfMemory or HeapFull if there is no room for it, also after a
-        full collection. After any of these but BadEntry the store has all entries before that place, and goes on from there. """
+        The `at` of its exception is the place of the entry at which it stopped. It raises BadValues if no store makes such an entry, and
+        BadPlace if it isn't the next. It raises BadEntry if the entry isn't legal, because it was altered or is of another opening. The
+        store is closed then. It raises OutOfMemory or HeapFull if there is no room for it, also after a full collection. After any of
+        these but BadEntry the store has all entries before that place, and goes on from there.
+        """
         for place, entry in enumerate(entries, at):
             packed = entry_in(entry)
             try:
@@ -93,12 +94,12 @@ class Store(Held, Marked):
 
     @classmethod
     def reopen(cls: Type[Own], snapshot: Snapshot, limits: Tuple[int, int, int] = Limits(), trusted: Iterable[int] = ()) -> Own:
-        """Opens a store that goes on from a snapshot: with its workers, edges and values. Names go on, and so do the places of the
+        """Opens a store that goes on from a snapshot, with its workers, edges and values. Names go on, and so do the places of the
         journal, of which the store holds no entry from before. From there each command is answered as by the store of which it is a
         snapshot. `Auditor.reopen` opens an auditor for it from the same snapshot.
 
-        It raises BadLimits if `max_vertices` isn't that of the first store, or another limit is out of its range, and BadWorkers if
-        the snapshot has no worker. A snapshot has no marks of the host: `trusted` are workers of the snapshot.
+        It raises BadLimits if `max_vertices` isn't the number of the first store, or another limit is out of its range. It raises
+        BadWorkers if the snapshot has no worker. A snapshot has no marks of the host, so `trusted` names workers of the snapshot.
         """
         if not isinstance(snapshot, Snapshot):
             raise TypeError(f"a snapshot is wanted, and not {short_of(snapshot)}")
@@ -129,10 +130,10 @@ class Store(Held, Marked):
             raise self._with_names(denial)
 
     def hand(self, via: int, source: int, to: int, target: int, rights: int) -> Rights:
-        """Hands rights on. The worker `via` takes the rights over the target from `source`, grants them to `to`, and removes those
-        of them that it didn't hold before. This is done completely or left undone. Afterwards `to` holds the rights over the target
-        too, and all else is as it was. Each command has an entry: two, or three with the remove. Returns the rights that were
-        removed, which may be none.
+        """Hands rights on. The worker `via` takes the rights over the target from `source`, grants them to `to`, and removes the rights
+        that it didn't hold before. This is done completely or left undone. Afterwards `to` holds the rights over the target too, and all
+        else is as it was. Each command has an entry, so there are two, or three with the remove. Returns the rights that were removed,
+        which may be none.
 
         The take is decided first, and then the grant, both on the graph before the hand. If one is denied, its entry is the only
         one, and the exception's `rule` says which it is.
@@ -187,8 +188,8 @@ class Store(Held, Marked):
         an entry, by rising name. Afterwards no worker outside of `keep` holds any of the rights over the target, and all other labels
         are as they were. The call is done whole, or refused.
 
-        Returns who still holds some of the rights, by rising name: kept workers, objects, and workers that retired, of all that the
-        workers then reach. If this is nobody and the target was made, no vertex that a worker reaches ever holds one of the rights
+        Returns who still holds some of the rights, by rising name. They are kept workers, objects, and workers that retired, if the
+        workers then reach them. If this is nobody and the target was made, no vertex that a worker reaches ever holds one of the rights
         over the target again. Otherwise a worker may take a right back, and `could` says which. Without `keep` the target may be reached
         by nobody, and then the next full collection frees it.
 
@@ -197,8 +198,8 @@ class Store(Held, Marked):
         return self._place.withdraw(target, rights, bytes_of(keep))
 
     def who_holds(self, right: int, name: int) -> List[int]:
-        """Returns who holds the right over the vertex with this name, by rising name: workers, objects, and workers that retired,
-        of all that a worker reaches. The journal gets no entry. It raises BadRights if it isn't one right."""
+        """Returns who holds the right over the vertex with this name, by rising name. Holders are workers, objects, and workers that
+        retired, if a worker reaches them. The journal gets no entry. It raises BadRights if it isn't one right."""
         return self._place.who_holds(right, name)
 
     def edges_to(self, name: int) -> List[Edge]:
@@ -237,9 +238,9 @@ class Store(Held, Marked):
         """Takes commands of the worker one after the other, at most 1,024, and answers their replies. Each is a deed of
         `kovshenul.journal`, but no Create and no Spawn. Each has an entry of its own, at places that follow one another.
 
-        A denial is a reply, and the next command is taken after it. A batch of more commands raises BadLimits, and one with a
-        bad set of rights BadRights; nothing of it is done. Any other refusal is that of the first command that is refused. Its
-        `replies` are those of the commands before it, which are done, and those after it aren't asked for.
+        A denial is a reply, and the next command is taken after it. A batch of more commands raises BadLimits, and a batch with a bad
+        set of rights raises BadRights. Nothing of it is done. Any other refusal is that of the first command that is refused. Its
+        `replies` are the replies of the commands before it, which are done. The commands after it aren't asked for.
         """
         status, entries = self._place.apply_all(worker, commands_in(commands))
         replies = [entry_of(*entry).reply for entry in entries]
@@ -268,16 +269,16 @@ class Store(Held, Marked):
         The edges of `as_if` are supposed to be there too, so a host asks about a grant before it makes it. Their ends may be any
         vertices that a worker reaches.
 
-        A collection changes no answer, and the journal gets no entry. It raises BadRights if `right` isn't one right,
-        NoSuchWorker if a silent one is no worker, and BadEdge if a supposed edge joins a vertex to itself, or has an end that no
-        worker reaches.
+        A collection changes no answer, and the journal gets no entry. It raises BadRights if `right` isn't one right, and NoSuchWorker
+        if a silent name is no worker. It raises BadEdge if a supposed edge joins a vertex to itself, or has an end that no worker
+        reaches.
         """
         return outlook_of(*self._place.could(*scene_in(self._silent(silent), as_if), x, right, y))
 
     def view(self, silent: Optional[Iterable[int]] = None, as_if: Iterable[Tuple[int, int, int]] = ()) -> View:
-        """Opens a view of what the workers reach, in which the silent ones take no turns, as if these edges were there too. The
-        silent ones are those of `could`. The journal gets no entry. It is refused as `could` is for a silent one or a supposed
-        edge."""
+        """Opens a view of the vertices that the workers reach, in which the silent workers take no turns, as if these edges were there
+        too. The silent workers are the workers of `could`. The journal gets no entry. It is refused as `could` is for a silent one or a
+        supposed edge."""
         return View(self, silent, as_if)
 
     def collect(self, kind: int = Kind.FULL) -> int:
@@ -294,7 +295,7 @@ class Store(Held, Marked):
         return self._place.names()
 
     def entries(self) -> int:
-        """Returns how many entries the journal ever had, with those that were given up. The next entry gets this place."""
+        """Returns how many entries the journal ever had, with the entries that were given up. The next entry gets this place."""
         return self._place.entries()
 
     def first(self) -> int:

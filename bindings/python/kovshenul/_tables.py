@@ -1,5 +1,5 @@
-"""The two tables of a store that is kept in a database: its entries, and the head, which has the snapshot before the first of
-them.
+"""The two tables of a store that is kept in a database. One has its entries, and the other is the head, which has the snapshot
+before the first of them.
 
 The columns of an entry are the words of its line. So a query of the host finds entries by them, and a reader compares them with
 the line. Numbers of vertices and places of a query come as text, because no database has a type for each number below 2^64.
@@ -29,7 +29,7 @@ PREFIX = re.compile(r"[a-z_][a-z0-9_]{0,39}")
 
 
 class BadTables(Error):
-    """The tables aren't those of a store: they aren't there, another version of the package wrote them, or a store is there
+    """The tables aren't the tables of a store. They aren't there, another version of the package wrote them, or a store is there
     already. The text says which. Nothing was changed."""
 
 
@@ -100,7 +100,7 @@ class Tables:
 
     def move_head(self, old: Head, new: Head) -> bool:
         """Puts a later head in the place of an old one, and deletes the entries before it but for the last of them. It changes
-        nothing if the head is another one by now. Returns whether it moved the head."""
+        nothing if the head was replaced. Returns whether it moved the head."""
         statement = f"UPDATE {self.of_head} SET first = ?, snapshot = ? WHERE first = ?"
         if self.database.run(statement, new.first, str(new.snapshot), old.first) == 0:
             return False

@@ -1,4 +1,5 @@
-"""The text of a history, which the program tgaudit reads: the lines before the entries, a line for each entry, and the last line.
+"""The text of a history, which the program tgaudit reads. It has the lines before the entries, a line for each entry, and the last
+line.
 
 The library writes all three. These calls look at no store, so both back ends make them by ctypes, and without the lock.
 """

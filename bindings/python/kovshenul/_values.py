@@ -58,7 +58,7 @@ VALUE = Struct("=IIQ")
 
 
 class Value:
-    """What a vertex stores at first, and the law by which a write changes it: a Cell, Sum, Max or Log."""
+    """The value that a vertex stores at first, and the law by which a write changes it. It is a Cell, Sum, Max or Log."""
 
     _packed: bytes
 
@@ -124,8 +124,8 @@ class Edge(NamedTuple):
 
 
 class Limits(NamedTuple):
-    """How many vertices may ever be made (to 2^48), and how many blocks of 64 cells the heap and one space of it may have
-    (to 2^20 each). `max_blocks` bounds how many vertices live at once: 65,536 blocks held 3,595,117 of one row."""
+    """How many vertices may ever be made, at most 2^48. How many blocks of 64 cells the heap and one space of it may have, at most 2^20
+    each. `max_blocks` bounds how many vertices live at once. 65,536 blocks held 3,595,117 vertices of one row."""
 
     max_vertices: int = 2**20
     max_blocks: int = 4096
@@ -140,9 +140,9 @@ class Target(NamedTuple):
 
 
 class Counts(NamedTuple):
-    """What the heap has, with the vertices that nobody reaches until a full collection frees them. Then how many entries were
-    made, how many of these are held, and how many are denials or found a limit reached. A refusal without an entry is in none of
-    these numbers. At last, how many collections of each kind were done since the store was opened, also if they moved nothing."""
+    """The sizes of the heap, with the vertices that nobody reaches until a full collection frees them. Then how many entries were made, how
+    many of these are held, and how many are denials or found a limit reached. A refusal without an entry is in none of these numbers. At
+    last, how many collections of each kind were done since the store was opened, also if they moved nothing."""
 
     vertices: int
     payloads: int

@@ -9,16 +9,16 @@
         cursor.execute("INSERT INTO note VALUES (?, ?)", (note, "a note"))
     print(note)                                           # a reply is handed on after its transaction
 
-The connection is one of sqlite3, or one of psycopg2 to PostgreSQL. A transaction is committed whole or not at all: the rows of
-the host, and the entries of the commands that the store answered in it. A row of the table has the place of its entry as the
+The connection is one of sqlite3, or one of psycopg2 to PostgreSQL. A transaction is committed whole or not at all. It has the rows
+of the host, and the entries of the commands that the store answered in it. A row of the table has the place of its entry as the
 primary key. So of two writers one fails, which then raises Fenced.
 
-Hand on what the store answered only after the end of the `with`. Before, a crash may take the answer back. If a COMMIT fails or
-has no answer, the journal closes the store and raises Lost, because nobody knows whether the entries are in the table.
+Hand on the answers of the store only after the end of the `with`. Before, a crash may take the answer back. If a COMMIT fails or
+has no answer, nobody knows whether the entries are in the table. Then the journal closes the store and raises Lost.
 `Journal.resume` then opens a store with all entries of the table.
 
 One thread at a time uses a journal, its store and its connection. Other threads and other processes ask a Follower, which has a
-connection of its own. The page docs/DATABASE.md says what this gives and what it doesn't.
+connection of its own. The page docs/DATABASE.md says which guarantees this gives.
 """
 from __future__ import annotations
 
@@ -65,14 +65,14 @@ class Fenced(Error):
 
 
 class Older(Error):
-    """The table lacks an entry that was committed: it is an older copy, or that of a standby that didn't have the entry yet.
+    """The table lacks an entry that was committed. It is an older copy, or the table of a standby that didn't have the entry yet.
     Rights that were given up may be back. The journal raises Older from then on. To go on from the older history, make a new
     Journal."""
 
 
 def _take_all(tables: Tables, store: Optional[Store] = None, limits: Optional[Limits] = None) -> Store:
-    """A store with all entries of the table. It is the same store, unless entries that the store lacks were deleted. Another one
-    has no marks. Each part of the entries is read in a transaction of its own."""
+    """A store with all entries of the table. It is the same store, unless entries that the store lacks were deleted. Another kind
+    of store has no marks. Each part of the entries is read in a transaction of its own."""
     own = None
     try:
         while True:
@@ -109,7 +109,7 @@ class Journal:
         self._standby = standby
         self._store: Optional[Store] = None
         self._last = Last(0, None)
-        # What the last entry would be if a COMMIT that failed, or had no answer, was done.
+        # The last entry if a COMMIT that failed, or had no answer, was done.
         self._unknown = self._last
         # Why the journal closed its store.
         self._why: Optional[Error] = None
@@ -148,8 +148,8 @@ class Journal:
         trusted: Iterable[int] = (),
         last: Optional[Last] = None,
     ) -> Store:
-        """Opens a store that has all entries of the table, and closes the one before. Its limits are those of `open`, or others
-        with the same `max_vertices`. `trusted` are workers after the last entry.
+        """Opens a store that has all entries of the table, and closes the store before. Its limits are the limits of `open`, or
+        others with the same `max_vertices`. `trusted` are workers after the last entry.
 
         It does the deed of each entry again, and compares the reply. It raises BadEntry if an entry isn't legal or if a column
         isn't what its line says, and BadPlace if a row is missing. The exception's `at` is the place. It raises BadTables if
@@ -262,7 +262,7 @@ class Journal:
         return why
 
     def _end_of(self, store: Store, wanted: Iterable[Optional[Last]]) -> Last:
-        """The last entry of a store that has all entries of the table. The table has the wanted ones too, if they weren't
+        """The last entry of a store that has all entries of the table. The table has the requested entries too, if they weren't
         pruned."""
         first, entries = self._tables.first(), store.entries()
         for last in wanted:
@@ -361,11 +361,11 @@ class Journal:
 # ---- readers
 
 class Follower:
-    """A reader of a store that is kept in a database: it has a store of its own, which takes up the entries of the table.
+    """A reader of a store that is kept in a database. It has a store of its own, which takes up the entries of the table.
 
     It opens the store, and takes up all entries. From then on `follow` takes up what is new. It raises what `Journal.resume`
-    raises. It writes nothing, so a standby of PostgreSQL may answer it. The answers are those of the writer's store at the same
-    `place`. `trusted` are workers after the last entry that is there.
+    raises. It writes nothing, so a standby of PostgreSQL may answer it. The answers are the answers of the writer's store at the
+    same `place`. `trusted` are workers after the last entry that is there.
     """
 
     def __init__(self, connection: Any, prefix: str = PREFIX, trusted: Iterable[int] = ()) -> None:
@@ -410,7 +410,7 @@ class Follower:
         return self._store.could(x, right, y, silent, as_if)
 
     def view(self, silent: Optional[Iterable[int]] = None, as_if: Iterable[Tuple[int, int, int]] = ()) -> View:
-        """Opens a view of what the workers reach, as `Store.view`."""
+        """Opens a view of the vertices that the workers reach, as `Store.view`."""
         return self._store.view(silent, as_if)
 
     def subjects(self) -> List[int]:

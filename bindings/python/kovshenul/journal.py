@@ -1,4 +1,4 @@
-"""What an entry of the journal says: who asked, for what (a deed), and what was answered (a reply).
+"""The parts of an entry of the journal. They are the worker that asked, the deed that it asked for, and the reply.
 
     for at, entry in enumerate(store.journal()):
         match entry:
@@ -19,10 +19,10 @@ from ._values import RIGHTS, Cell, Log, Max, Rights, Sum, Target, Value
 # By their numbers. A log begins with none.
 LAWS = (Cell, Sum, Max, Log)
 
-# What is no command of a batch.
+# Deeds that are no commands of a batch.
 NO_COMMAND = "a command is a deed of kovshenul.journal, but no Create and no Spawn"
 
-# What is no entry.
+# Texts that are no entry.
 NO_ENTRY = "an entry is a journal.Entry of a deed and a reply of kovshenul.journal"
 
 
@@ -132,7 +132,7 @@ class Name:
 
 @dataclass(frozen=True)
 class Values:
-    """What a vertex stored when it was read."""
+    """The numbers that a vertex stored when it was read."""
 
     numbers: Tuple[int, ...]
 
@@ -183,7 +183,7 @@ REPLIES = {0: Done, 1: Denied, 2: Name, 3: Values, 4: Edges, 16: VerticesFull, 1
 
 
 class Record(NamedTuple):
-    """An entry in numbers, without those of its value and its edges. What a deed or a reply hasn't is 0."""
+    """An entry in numbers, without the numbers of its value and its edges. A number that a deed or a reply doesn't have is 0."""
 
     worker: int
     deed: int
@@ -204,7 +204,7 @@ def entry_of(record: Record, numbers: Sequence[int], edges: Sequence[Target]) ->
 
 
 def deed_of(record: Record, numbers: Sequence[int]) -> Deed:
-    """What the record says that was asked for, with the numbers that a vertex stores at first."""
+    """The deed of the record, with the numbers that a vertex stores at first."""
     kind, rights = DEEDS[record.deed], RIGHTS[record.rights]
     if kind in (Take, Grant):
         return kind(record.via, record.target, rights)
@@ -239,7 +239,7 @@ NO_DENIAL: Numbers = (0, 0, 0, 0, 0)
 
 
 def command_of(deed: Deed) -> Tuple[int, int, int, int, int]:
-    """The number of a command, and then its via, target, rights and value, or 0 for what it hasn't."""
+    """The number of a command, and then its via, target, rights and value, or 0 for each that it doesn't have."""
     if type(deed) not in _DEED_NUMBERS or isinstance(deed, (Create, Spawn)):
         raise TypeError(NO_COMMAND)
     via, target, rights, value = (getattr(deed, name, 0) for name in ("via", "target", "rights", "value"))

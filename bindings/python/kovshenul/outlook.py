@@ -55,7 +55,7 @@ class WantsNames:
 
 @dataclass(frozen=True)
 class Unreached:
-    """x was made, and no worker reaches it. What it holds stays for good."""
+    """x was made, and no worker reaches it. Its rights stay for good."""
 
 
 @dataclass(frozen=True)
@@ -63,8 +63,8 @@ class Open:
     """It is not decided whether x could hold it. A policy has to treat this as `Could`.
 
     It comes for a name that isn't made yet, if more than 65,536 other names come before it. The turns would have to make all of
-    these. Ask about the next name in its place. For other names it isn't known to come. If it does, x could hold the right, and
-    the turns aren't known."""
+    these names. Ask about the next name in its place. For other names it isn't known to come. If it does, x could hold the
+    right, and the turns aren't known."""
 
 
 @dataclass(frozen=True)
@@ -74,7 +74,7 @@ class Perhaps:
 
 Outlook = Union[Never, Now, Could, WantsNames, Unreached, Open]
 
-# What a view answers.
+# The answers of a view.
 Chance = Union[Never, Unreached, Perhaps]
 
 # By their numbers.

@@ -1,4 +1,4 @@
-"""The model of the store in plain Python, to test a host against: `plain.Store(..)` replaces `kovshenul.Store(..)`.
+"""The model of the store in plain Python, to test a host against. `plain.Store(..)` replaces `kovshenul.Store(..)`.
 
     def use(store):
         ...                                     # the calls that the host makes
@@ -10,20 +10,20 @@
 It has the same calls, with the same arguments and answers. It raises the same exceptions and keeps the same journal. The rules are in
 `_rules.py`, written so that they can be read. The store is proved, and the model isn't. The package's tests compare the two.
 
-It is plain Python. The library for C, which the package loads, is asked for texts and for nothing else: those of refusals, of entries,
-of an opening and of a snapshot. `_rules.py` runs without the package.
+It is plain Python. The library for C, which the package loads, is asked only for texts. They are the texts of refusals, of entries, of
+an opening and of a snapshot. `_rules.py` runs without the package.
 
-What it leaves out:
+It leaves out:
 
 - Collections. The model keeps each vertex for good. `collect` of either kind changes nothing, and returns how many vertices a full
   collection of the store leaves. `names` returns their names.
 - Blocks and memory. Of `Limits` only `max_vertices` counts. No call raises HeapFull or OutOfMemory.
-- The room of a census: `vertices` and `payloads` count all that were ever made, and `blocks` is 0.
-- Files, the Auditor, and the lock: one thread at a time may call.
+- The room of a census. `vertices` and `payloads` count all that were ever made, and `blocks` is 0.
+- Files, the Auditor, and the lock. One thread at a time may call.
 - The store's turns. An answer of `could` has turns of the model's own, often fewer. Therefore one side may say WantsNames or Open where
-  the other one says Could. A question takes the time of a closure: about a second for 100 vertices.
+  the other one says Could. A question takes the time of a closure, which is about a second for 100 vertices.
 
-The other names of this module are those of `kovshenul`.
+The other names of this module are the names of `kovshenul`.
 """
 from __future__ import annotations
 
@@ -67,12 +67,12 @@ Own = TypeVar("Own", bound="_Held")
 
 
 class _Held:
-    """What is open or closed, as a store and a view are."""
+    """An object that is open or closed, as a store and a view are."""
 
     closed = True
 
     def close(self) -> None:
-        """Closes it. What is closed may be closed again."""
+        """Closes it. A closed object may be closed again."""
         self.closed = True
 
     def _must_be_open(self) -> None:
@@ -134,7 +134,7 @@ class Store(_Held, Marked):
         self._ask(worker, kind(*named, Rights(rights)), *named, rights)
 
     def hand(self, via: int, source: int, to: int, target: int, rights: int) -> Rights:
-        """`via` takes rights over the target from `source`, grants them to `to`, and removes those of them that it lacked."""
+        """`via` takes rights over the target from `source`, grants them to `to`, and removes the rights that it lacked."""
         via, source, to, target, rights = numbers_in(via, source, to, target, rights)
         must_be_rights(rights)
         self._must_work(via)
@@ -177,7 +177,7 @@ class Store(_Held, Marked):
         return self._make(Create, worker, rights, value)
 
     def spawn(self, worker: int, rights: int, value: Value, trusted: bool = False) -> int:
-        """Makes a worker over which the one who asks has the rights, and returns its name."""
+        """Makes a worker over which the asking worker has the rights, and returns its name."""
         name = self._make(Spawn, worker, rights, value)
         if trusted:
             self._trusted.add(name)
@@ -205,7 +205,7 @@ class Store(_Held, Marked):
         entries: Iterable[Entry],
         trusted: Iterable[int] = (),
     ) -> Own:
-        """Opens a store that goes on from the entries of another one. They begin at the first entry."""
+        """Opens a store that goes on from the entries of another store. They begin at the first entry."""
         store = cls(workers, edges, limits)
         store.go_on(0, entries)
         store._trust_each(trusted)
@@ -347,19 +347,20 @@ class Store(_Held, Marked):
         return [*self._graph.subjects]
 
     def could(self, x: int, right: int, y: int, silent: Optional[Iterable[int]] = None, as_if: Iterable[Pair] = ()) -> Outlook:
-        """Whether x could ever come to hold the right over y, by any turns of the workers but the silent ones, as if these edges were
-        there too."""
+        """Whether x could ever come to hold the right over y, as if these edges were there too. Any turns of the workers that aren't
+        silent count."""
         names, edges = numbers_in(*self._silent(silent)), edges_in(as_if)
         x, right, y = numbers_in(x, right, y)
         must_be_one(right)
         return self._foresight(names, edges).answer(x, right, y)
 
     def view(self, silent: Optional[Iterable[int]] = None, as_if: Iterable[Pair] = ()) -> View:
-        """A view of what the workers reach at the moment."""
+        """A view of the vertices that the workers reach at the moment."""
         return View(self, silent, as_if)
 
     def _foresight(self, silent: Tuple[int, ...], as_if: List[Pair]) -> Foresight:
-        """What answers the questions about the graph with the supposed edges. It is kept for as long as there is no other entry."""
+        """The searcher that answers the questions about the graph with the supposed edges. It is kept for as long as there is no other
+        entry."""
         must_be_rights(*[rights for _, _, rights in as_if])
         self._must_be_open()
         if not {*silent} <= {*self._graph.subjects}:
@@ -436,7 +437,7 @@ class Store(_Held, Marked):
 
 
 def _reply(deed: Deed, answer: object) -> Reply:
-    """What the journal says of a command that was served."""
+    """The reply in the journal to a command that was served."""
     if isinstance(deed, journal.Read):
         return journal.Values(answer)
     if isinstance(deed, (journal.List, journal.Inspect)):
@@ -457,7 +458,7 @@ class View(_Held):
         self.closed = False
 
     def could(self, x: int, right: int, y: int) -> Chance:
-        """That x never comes to hold the right over y; that no worker reached x, or Perhaps, which says nothing."""
+        """That x never comes to hold the right over y, or that no worker reached x, or Perhaps, which says nothing."""
         x, right, y = numbers_in(x, right, y)
         must_be_one(right)
         self._must_be_open()

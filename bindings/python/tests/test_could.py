@@ -1,5 +1,5 @@
-"""What could ever come about: on small random graphs `could` answers what the model in plain Python does. A view tells the same. Its turns
-lead there. A collection changes no answer."""
+"""What could ever come about: on small random graphs `could` answers what the model in plain Python does. A view has the same answers. By
+its turns the right comes about. A collection changes no answer."""
 import itertools
 import pickle
 import random
@@ -107,7 +107,7 @@ class Could(unittest.TestCase):
         return {type(answer) for answer in answers}
 
     def seen(self, answer):
-        """What a view tells of a question that has this answer."""
+        """The answer of a view to a question that has this answer."""
         return answer if isinstance(answer, (outlook.Never, outlook.Unreached)) else outlook.Perhaps()
 
     def test_turns_lead_there(self):

@@ -1,4 +1,5 @@
-"""A store whose entries are in a host's database: over sqlite3, and over PostgreSQL where its server and psycopg2 are there."""
+"""A store whose entries are in a host's database. It is over sqlite3, and over PostgreSQL if its server and psycopg2 are
+there."""
 import random
 import shutil
 import sqlite3

@@ -18,7 +18,8 @@ from kovshenul import GRANT, INSPECT, READ, WRITE, Auditor, Cell, Denied, Limits
 # Where the module's own functions are.
 FOLDER = str(Path(kovshenul.__file__).parent)
 
-# How long a thread waits for another one to come to the middle of its call, and how long until the two are said to hang.
+# How long a thread waits until another thread comes to the middle of its call. The second number is how long until the two are said to
+# hang.
 MEETING, HANGING = 0.005, 10
 
 # How long each of them runs, and how long after its last call a handler calls again.
@@ -50,8 +51,8 @@ def interrupted(call):
 
 
 class Meeting:
-    """A library, or a number. A thread that has something to do in the middle of a call does it when it looks for the library's function,
-    and when it asks for the number."""
+    """A library, or a number. A thread acts in the middle of a call at two places. It acts when it looks for the library's function, and
+    when it asks for the number."""
 
     def __init__(self, library, deeds, number=0):
         self.library, self.deeds, self.number = library, deeds, number
@@ -71,8 +72,8 @@ class Meeting:
 
 
 def interrupted_at(step, call, act):
-    """Makes the call, and in the middle of it acts once, as a handler or a finalizer could: after so many steps of the module's own
-    functions. Returns whether the call had so many steps, and what it returned."""
+    """Makes the call, and in the middle of it acts once, as a handler or a finalizer could. It acts after so many steps of the module's
+    own functions. Returns whether the call had so many steps, and what it returned."""
     left = step
 
     def trace(frame, event, _):
@@ -267,8 +268,8 @@ class Handlers(unittest.TestCase):
                 ended.set()
                 thread.join()
 
-    # How many edges the row has that is shown at each step, and how many steps of the package's functions a list or an inspect has at
-    # the least. In the extension it has none.
+    # How many edges the row has that is shown at each step. The second number is how many steps of the package's functions a list or an
+    # inspect has at least. In the extension it has none.
     LONG = 70
     STEPS = 100 if IS_CTYPES else 5
 

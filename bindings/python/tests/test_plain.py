@@ -1,4 +1,4 @@
-"""The model in plain Python beside the store: random calls have the same outcome on both, and a wrong rule on either side is found.
+"""The model in plain Python beside the store. Random calls have the same outcome on both, and a wrong rule on either side is found.
 `test_plain.py Agreement 25000` makes so many runs, of about a million calls."""
 import inspect
 import itertools
@@ -52,7 +52,7 @@ RUNS, MOST_RUNS = 80, 400
 FEW, MANY = 8, 60
 SMALL, QUESTIONS = 9, 6
 
-# That x could hold a right. Each side has turns of its own: those of one may need more names, or not be known.
+# That x could hold a right. Each side has turns of its own. The turns of one side may need more names, or not be known.
 COULD = (outlook.Could, outlook.WantsNames, outlook.Open)
 
 NUMBERS = (0, 1, 7, 40, 2**63, 2**64 - 1)
@@ -97,7 +97,7 @@ class Draw:
         return self.rng.choice([known, graph.made, 2**64 - 1]) if self.rng.random() < 0.1 else known
 
     def target(self, graph, x, wanted=0):
-        """Mostly a vertex over which x has all of the wanted rights, and some of the rights that it has."""
+        """Mostly a vertex over which x has all of the rights that are needed, and some of the rights that it has."""
         row = [edge for edge in graph.row(x) if not wanted & ~edge[1]]
         if not row or self.rng.random() < 0.1:
             return self.name(graph), self.rights()

@@ -114,8 +114,8 @@ def forked(run):
 
 
 def killed(run, rng, longest):
-    """Kills a child at a random moment, and returns what it acknowledged: places as text, with lines. The moment is so many
-    seconds at the most after the first acknowledgement, or for one child in five after its start."""
+    """Kills a child at a random moment, and returns the entries that it acknowledged, as places in text with lines. The moment
+    is so many seconds at the most after the first acknowledgement, or for one child in five after its start."""
     child, reader = forked(run)
     if rng.random() < 0.8:
         select.select([reader], [], [], 60)

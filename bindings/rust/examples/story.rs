@@ -25,7 +25,7 @@ fn main() -> Result<(), Error> {
     Ok(())
 }
 
-// Prints how a command ended. A denial is told, and any other refusal stops the story.
+// Prints how a command ended. A denial is printed, and any other refusal stops the story.
 fn tell(what: &str, answer: Result<(), Error>) -> Result<(), Error> {
     match answer {
         Ok(()) => println!("{what}: ok"),
@@ -35,7 +35,7 @@ fn tell(what: &str, answer: Result<(), Error>) -> Result<(), Error> {
     Ok(())
 }
 
-// What was wrong, without the rule: each line names its command already.
+// The reason without the rule, because each line names its command already.
 fn why(denial: &Denial) -> String {
     match denial {
         Denial::Missing { from, to, rights, .. } => format!("{rights} is missing on {from}->{to}"),

@@ -33,7 +33,8 @@ pub struct Auditor {
     place: UnsafeCell<RawAuditor>,
 }
 
-// What the pointer leads to may go to another thread: the library has a function whose bound asks for it (crates/tg_c/src/place.rt).
+// The value at the pointer may go to another thread, because the library has a function whose bound asks for it
+// (crates/tg_c/src/place.rt).
 unsafe impl Send for Auditor {}
 
 // No call of the library unwinds, so none is left half done.
@@ -97,7 +98,7 @@ impl Auditor {
         })
     }
 
-    /// Takes a snapshot of what it has come to, at its place. It is [`BadEntry`](Error::BadEntry) after a bad entry.
+    /// Takes a snapshot of the graph at its place. It is [`BadEntry`](Error::BadEntry) after a bad entry.
     pub fn snapshot(&self) -> Result<Snapshot, Error> {
         Snapshot::of(self.place.get())
     }

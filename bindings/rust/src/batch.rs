@@ -26,9 +26,9 @@ impl Store {
     /// Takes commands of the worker one after the other, at most 1,024, and returns their replies. Each has an entry of its own,
     /// at places that follow one another. A denial is a reply, and the next command is taken after it.
     ///
-    /// A batch of more commands is refused whole with [`BadLimits`](Error::BadLimits), and one with a create or a spawn with
-    /// [`BadKind`](Error::BadKind). Any other error is that of the first command that is refused: the commands before it are
-    /// done, and those after it aren't asked for.
+    /// A batch of more commands is refused whole with [`BadLimits`](Error::BadLimits), and a batch with a create or a spawn with
+    /// [`BadKind`](Error::BadKind). Any other error is the error of the first command that is refused. The commands before it
+    /// are done, and the commands after it aren't asked for.
     ///
     /// ```
     /// # use kovshenul::{Deed, Limits, Reply, Rights, Store, Value};

@@ -10,7 +10,7 @@ use std::ptr::null_mut;
 pub struct Turn {
     /// The worker that asks.
     pub worker: u64,
-    /// What it asks for. A create or a spawn makes the next name.
+    /// The deed that it asks for. A create or a spawn makes the next name.
     pub deed: Deed,
 }
 
@@ -33,12 +33,12 @@ pub enum Could {
         /// How many names are lacking.
         names: u64,
     },
-    /// x was made, and no worker reaches it. What it holds stays for good.
+    /// x was made, and no worker reaches it. Its rights stay for good.
     Unreached,
     /// It is not decided whether x could hold it. A policy has to treat this as [`After`](Could::After).
     ///
-    /// It comes for a name that isn't made yet, if more than 65,536 other names come before it. The turns would have to
-    /// make all of these. Ask about the next name in its place. For other names it isn't known to come. If it does, x could
+    /// It comes for a name that isn't made yet, if more than 65,536 other names come before it. The turns would have to make
+    /// all of these names. Ask about the next name in its place. For other names it isn't known to come. If it does, x could
     /// hold the right, and the turns aren't known.
     Open,
 }
@@ -60,12 +60,12 @@ impl Could {
 
 impl Store {
     /// Returns whether x could ever come to hold the right over y, by any turns of the workers that aren't silent. The silent
-    /// ones are those that the host trusts ([`Silent::Trusted`]), or a slice of names. The edges `as_if` are supposed to be
-    /// there too, so a host asks about a grant before it makes it. A worker that is spawned on the way acts too. A name that
-    /// isn't made yet represents a vertex that those who act may make.
+    /// workers are the workers that the host trusts ([`Silent::Trusted`]), or a slice of names. The edges `as_if` are
+    /// supposed to be there too, so a host asks about a grant before it makes it. A worker that is spawned on the way acts
+    /// too. A name that isn't made yet represents a vertex that the workers that act may make.
     ///
-    /// The answer is that of the graph that was never collected, and the journal gets no entry. It is `BadRights` if it
-    /// isn't one right, and `NoSuchWorker` if a silent one is no worker. It is `BadEdge` if an edge joins a vertex to
+    /// The answer is right for the graph that was never collected, and the journal gets no entry. It is `BadRights` if it
+    /// isn't one right, and `NoSuchWorker` if a silent name is no worker. It is `BadEdge` if an edge joins a vertex to
     /// itself, or has an end that no worker reaches.
     ///
     /// ```

@@ -1,10 +1,10 @@
-//! What a call returns that wasn't served.
+//! The error of a call that wasn't served.
 use crate::raw::{self, RawDenial};
 use crate::Rights;
 use std::ffi::CStr;
 use std::fmt;
 
-/// What was asked for where it was denied.
+/// The rule of a command that was denied.
 #[derive(Clone, Copy, PartialEq, Eq, Hash, Debug)]
 #[non_exhaustive]
 pub enum Rule {
@@ -62,12 +62,12 @@ const RULES: [Rule; 7] = [
 pub enum Denial {
     /// Two vertices that must differ are the same.
     NotDistinct {
-        /// What was asked for.
+        /// The rule of the denied command.
         rule: Rule,
     },
     /// The rights are missing on the edge from `from` to `to`.
     Missing {
-        /// What was asked for.
+        /// The rule of the denied command.
         rule: Rule,
         /// The vertex that lacks the rights.
         from: u64,
@@ -78,13 +78,13 @@ pub enum Denial {
     },
     /// The target of an append stores no log.
     NotLog {
-        /// What was asked for.
+        /// The rule of the denied command.
         rule: Rule,
     },
 }
 
 impl Denial {
-    /// What was asked for.
+    /// The rule of the denied command.
     pub fn rule(&self) -> Rule {
         match *self {
             Denial::NotDistinct { rule } | Denial::Missing { rule, .. } | Denial::NotLog { rule } => rule,
@@ -159,8 +159,7 @@ pub enum Error {
     BadWorkers,
     /// A limit is out of its range. `max_vertices` isn't that of a snapshot. A batch has more than 1,024 commands.
     BadLimits,
-    /// An edge from a worker to itself, or with an end that is no worker; a supposed edge with an end that no worker
-    /// reaches.
+    /// An edge from a worker to itself, or with an end that is no worker. Or a supposed edge with an end that no worker reaches.
     BadEdge,
     /// An entry to go on from that no store makes, as one with an empty set of rights.
     BadValues,
@@ -169,8 +168,8 @@ pub enum Error {
     BadEntry,
     /// The journal holds no entry at the place. It wasn't made yet, or it was given up. An entry to go on from isn't the next.
     BadPlace,
-    /// The journal hasn't all entries since the opening, so that they can't be audited: some were given up, or the store goes on
-    /// from a snapshot.
+    /// The journal doesn't have all entries since the opening, so they can't be audited. Some were given up, or the store goes
+    /// on from a snapshot.
     NotWhole,
     /// Entries before the place weren't audited.
     NotAudited,
@@ -222,7 +221,7 @@ impl fmt::Display for Error {
 
 impl std::error::Error for Error {}
 
-// What a status says.
+// The outcome that a status reports.
 pub(crate) fn served(status: u32) -> Result<(), Error> {
     if status == raw::DONE {
         return Ok(());

@@ -1,8 +1,8 @@
-//! What the entries of a journal say.
+//! The entries of a journal.
 use crate::raw::{self, RawRecord, RawTarget};
 use crate::{Denial, Rights, Store, Target, Value};
 
-/// What a worker asked for.
+/// A deed that a worker asked for.
 #[derive(Clone, Copy, PartialEq, Eq, Hash, Debug)]
 #[non_exhaustive]
 pub enum Deed {
@@ -63,19 +63,19 @@ pub enum Deed {
     Create {
         /// The rights over it.
         rights: Rights,
-        /// What it stores at first.
+        /// The value that it stores at first.
         value: Value,
     },
     /// To make a worker that stores the value at first, and to have rights over it.
     Spawn {
         /// The rights over it.
         rights: Rights,
-        /// What it stores at first.
+        /// The value that it stores at first.
         value: Value,
     },
 }
 
-/// What was answered.
+/// The reply to a deed.
 #[derive(Clone, PartialEq, Eq, Hash, Debug)]
 #[non_exhaustive]
 pub enum Reply {
@@ -85,7 +85,7 @@ pub enum Reply {
     Denied(Denial),
     /// A vertex was made, of this name.
     Name(u64),
-    /// What a vertex stored when it was read.
+    /// The numbers that a vertex stored when it was read.
     Values(Vec<u64>),
     /// The edges that a list or an inspect showed, by rising name.
     Edges(Vec<Target>),
@@ -100,14 +100,14 @@ pub enum Reply {
 pub struct Entry {
     /// The worker that asked.
     pub worker: u64,
-    /// What it asked for.
+    /// The deed that it asked for.
     pub deed: Deed,
-    /// What was answered.
+    /// The reply.
     pub reply: Reply,
 }
 
 impl Entry {
-    // What the library returned, with all numbers and edges.
+    // The entry that the library returned, with all numbers and edges.
     pub(crate) fn told(record: &RawRecord, numbers: &[u64], edges: &[RawTarget]) -> Entry {
         Entry {
             worker: record.worker,
@@ -118,7 +118,7 @@ impl Entry {
 }
 
 impl Deed {
-    // What the library returned of it, with the numbers that a vertex stores at first.
+    // The deed that the library returned, with the numbers that a vertex stores at first.
     pub(crate) fn told(record: &RawRecord, numbers: &[u64]) -> Deed {
         let rights = Rights::told(record.rights);
         let RawRecord { via, target, value, .. } = *record;
@@ -146,7 +146,7 @@ impl Deed {
 }
 
 impl Value {
-    // What a vertex that was made stored at first. A log begins with no number, and each other law with one.
+    // The value that a new vertex stored at first. A log begins with no number, and each other law with one.
     fn told(record: &RawRecord, numbers: &[u64]) -> Value {
         match record.law {
             raw::CELL => Value::Cell(numbers[0]),

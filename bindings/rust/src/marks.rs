@@ -1,4 +1,4 @@
-//! What the host says of its vertices: names for people, and whom it trusts. No reply depends on it.
+//! Marks of the host on its vertices, which are names for people, and whom the host trusts. No reply depends on a mark.
 use crate::{Deed, Denial, Entry, Error, Reply, Rights, Store, Turn, Value};
 use std::borrow::Cow;
 use std::collections::{BTreeMap, BTreeSet};
@@ -6,7 +6,7 @@ use std::fmt;
 
 type Names = BTreeMap<u64, String>;
 
-// What the host said of its vertices.
+// The marks of the host on its vertices.
 #[derive(Default)]
 pub(crate) struct Marks {
     names: Names,
@@ -115,7 +115,7 @@ impl Store {
     }
 }
 
-/// What [`Store::named`] shows.
+/// The value that [`Store::named`] shows.
 #[derive(Clone, Copy, Debug)]
 pub struct Named<'a, T: ?Sized> {
     it: &'a T,
@@ -176,7 +176,7 @@ impl fmt::Display for Named<'_, Deed> {
     }
 }
 
-// What a vertex stores at first: the letter of its law, and a number.
+// The value that a vertex stores at first, as the letter of its law and a number.
 struct Law<'a>(&'a Value);
 
 impl fmt::Display for Law<'_> {

@@ -25,7 +25,7 @@ pub const SUM: u32 = 1;
 pub const MAX: u32 = 2;
 pub const LOG: u32 = 3;
 
-// What an entry of the journal was asked for.
+// The kinds of deeds in an entry of the journal.
 pub const DEED_TAKE: u32 = 0;
 pub const DEED_GRANT: u32 = 1;
 pub const DEED_REMOVE: u32 = 2;
@@ -38,7 +38,7 @@ pub const DEED_RETIRE: u32 = 9;
 pub const DEED_CREATE: u32 = 16;
 pub const DEED_SPAWN: u32 = 17;
 
-// What was answered to it.
+// The kinds of replies in an entry.
 pub const REPLY_DONE: u32 = 0;
 pub const REPLY_DENIED: u32 = 1;
 pub const REPLY_NAME: u32 = 2;
@@ -47,7 +47,7 @@ pub const REPLY_EDGES: u32 = 4;
 pub const REPLY_VERTICES_FULL: u32 = 16;
 pub const REPLY_WORKERS_FULL: u32 = 17;
 
-// What an answer to a question of what could come about says.
+// The kinds of answers to a question about the future.
 pub const NEVER: u64 = 0;
 pub const NOW: u64 = 1;
 pub const COULD: u64 = 2;

@@ -1,4 +1,4 @@
-//! A store that goes on from the entries of another one.
+//! A store that goes on from the entries of another store.
 use crate::error::served;
 use crate::raw::{self, RawDenial, RawRecord, RawTarget};
 use crate::{Deed, Edge, Entry, Error, Limits, Reply, Store, Value};
@@ -26,11 +26,11 @@ impl fmt::Display for Stopped {
 impl std::error::Error for Stopped {}
 
 impl Store {
-    /// Opens a store that goes on from the entries of another one, which was opened with the same workers, edges and
+    /// Opens a store that goes on from the entries of another store, which was opened with the same workers, edges and
     /// `max_vertices`. They begin at the first entry.
     ///
-    /// The store does the deed of each entry again, and compares the replies. So nobody has to believe the entries: with
-    /// `Ok` they are a legal history of this opening. The store then gives each later reply as the other one would.
+    /// The store does the deed of each entry again, and compares the replies. So nobody has to believe the entries. With `Ok` they
+    /// are a legal history of this opening. The store then gives each later reply as the other store would.
     ///
     /// ```
     /// # use kovshenul::{Entry, Limits, Rights, Store, Value};
@@ -113,7 +113,7 @@ impl Entry {
     }
 }
 
-// The numbers that a vertex stores at first, or those that were read. A log begins with none.
+// The numbers that a vertex stores at first, or that were read. A log begins with none.
 fn numbers_of(entry: &Entry) -> Vec<u64> {
     match (&entry.deed, &entry.reply) {
         (Deed::Create { value, .. } | Deed::Spawn { value, .. }, _) => match *value {

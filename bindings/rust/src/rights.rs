@@ -51,7 +51,7 @@ impl Rights {
     /// `v`: for the host to use, as `u`.
     pub const FREE_V: Rights = Rights(128);
 
-    /// The set with these bits, where each is a right: a number below 256.
+    /// The set with these bits, if each bit is a right, so the number is below 256.
     pub fn from_bits(bits: u64) -> Option<Rights> {
         let rights = Rights(bits);
         Rights::all().contains(rights).then_some(rights)
@@ -83,7 +83,7 @@ impl Rights {
         rights.filter(move |right| self.contains(*right))
     }
 
-    // What the library answers.
+    // The rights that the library returns.
     pub(crate) fn told(bits: u64) -> Rights {
         Rights(bits)
     }

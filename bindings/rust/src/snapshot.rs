@@ -10,9 +10,10 @@ use std::fmt;
 use std::ptr::null_mut;
 use std::str::FromStr;
 
-/// A snapshot of a graph, at a place of its history: the active workers, what they reach with what is stored there, and how many
-/// entries came before. An [`Auditor`](crate::Auditor) takes one ([`snapshot`](crate::Auditor::snapshot)), and another one goes on
-/// from it ([`reopen`](crate::Auditor::reopen)). A store goes on from one too ([`Store::reopen`](crate::Store::reopen)).
+/// A snapshot of a graph, at a place of its history. It has the active workers, the vertices that they reach with their numbers, and
+/// how many entries came before. An [`Auditor`](crate::Auditor) takes a snapshot ([`snapshot`](crate::Auditor::snapshot)), and another
+/// auditor goes on from it ([`reopen`](crate::Auditor::reopen)). A store goes on from a snapshot too
+/// ([`Store::reopen`](crate::Store::reopen)).
 ///
 /// [`subjects`](Snapshot::subjects), [`vertices`](Snapshot::vertices) and [`edges`](Snapshot::edges) iterate over what it shows. It is
 /// kept as its text, by `to_string` and `parse`. The text has a line for each thing that is shown, and no line feed after the
@@ -39,11 +40,11 @@ pub struct Vertex {
     pub name: u64,
     /// Its law: this value makes such a vertex. A log begins empty, so only `numbers` say what a log stores.
     pub value: Value,
-    /// What it stores, as [`Store::read`](crate::Store::read) returns it.
+    /// The numbers that it stores, as [`Store::read`](crate::Store::read) returns them.
     pub numbers: Vec<u64>,
 }
 
-// What would be right.
+// The reason that a bad line is given.
 const DUE: &str = "not as it is due in the text of a snapshot, which begins with 'kovshenul picture 1' and ends with 'picture COUNT'";
 
 // Why each part of a text is as it is due.
@@ -170,7 +171,7 @@ impl Snapshot {
         [(); 3].map(|()| counts.next().expect(ACCEPTED))
     }
 
-    // What follows the word in each line that begins with it.
+    // The rest of each line that begins with the word.
     fn lines<'a>(&'a self, word: &'a str) -> impl Iterator<Item = &'a str> + 'a {
         self.text.lines().filter_map(move |line| line.strip_prefix(word))
     }
@@ -197,7 +198,7 @@ impl Snapshot {
         served(unsafe { raw::tg_reopen(store, &mut place.0, limits) })
     }
 
-    // What its text says, in a place of the library.
+    // The snapshot of its text, in a place of the library.
     fn place(&self) -> Result<Place, NoSnapshot> {
         let (mut place, mut line) = (Place::closed(), 0);
         let text = format!("{self}\n");
@@ -215,7 +216,7 @@ fn number(digits: &str) -> u64 {
     digits.parse().expect(ACCEPTED)
 }
 
-// The law of a vertex and its numbers, by their text: `s42`, or `l2:7,8` for a log of at most two.
+// The law of a vertex and its numbers, by their text, as `s42`, or `l2:7,8` for a log of at most two.
 fn stored_by(text: &str) -> (Value, Vec<u64>) {
     let (law, digits) = text.split_at(1);
     let (first, rest) = digits.split_once(':').unwrap_or((digits, ""));

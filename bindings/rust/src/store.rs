@@ -62,11 +62,12 @@ pub struct Store {
     // While a call runs, one that only looks too, the library takes the store out of its place, and puts it back. The
     // cell is why that may be, and why no two threads call at once.
     place: UnsafeCell<RawStore>,
-    // What the host said of its vertices, of which the library knows nothing.
+    // The marks of the host on its vertices, of which the library knows nothing.
     pub(crate) marks: Marks,
 }
 
-// What the pointer leads to may go to another thread: the library has a function whose bound asks for it (crates/tg_c/src/place.rt).
+// The value at the pointer may go to another thread, because the library has a function whose bound asks for it
+// (crates/tg_c/src/place.rt).
 unsafe impl Send for Store {}
 
 // No call of the library unwinds, so none is left half done.
@@ -94,12 +95,12 @@ impl Store {
         Ok(Store::over(place))
     }
 
-    /// Opens a store that goes on from a snapshot: with its workers, edges and values. Names go on, and so do the places of the
+    /// Opens a store that goes on from a snapshot, with its workers, edges and values. Names go on, and so do the places of the
     /// journal, of which the store holds no entry from before. From there each command is answered as by the store of which it is a
     /// snapshot. [`Auditor::reopen`](crate::Auditor::reopen) opens an auditor for it from the same snapshot.
     ///
-    /// It is [`BadLimits`](Error::BadLimits) if `max_vertices` isn't that of the first store, or another limit is out of its range,
-    /// and [`BadWorkers`](Error::BadWorkers) if the snapshot has no worker. The snapshot has no marks of the host.
+    /// It is [`BadLimits`](Error::BadLimits) if `max_vertices` isn't the number of the first store, or another limit is out of its
+    /// range. It is [`BadWorkers`](Error::BadWorkers) if the snapshot has no worker. The snapshot has no marks of the host.
     ///
     /// ```
     /// # use kovshenul::{Auditor, Limits, Rights, Snapshot, Store, Value};
@@ -158,13 +159,13 @@ impl Store {
         decided(status, &why)
     }
 
-    /// Hands rights on. The worker `via` takes the rights over the target from `from`, grants them to `to`, and removes those of
-    /// them that it didn't hold before. This is done completely or left undone. Afterwards `to` holds the rights over the target too,
-    /// and all else is as it was. Each command has an entry: two, or three with the remove. Returns the rights that were removed, which
-    /// may be none.
+    /// Hands rights on. The worker `via` takes the rights over the target from `from`, grants them to `to`, and removes the rights that
+    /// it didn't hold before. This is done completely or left undone. Afterwards `to` holds the rights over the target too, and all
+    /// else is as it was. Each command has an entry, so there are two, or three with the remove. Returns the rights that were removed,
+    /// which may be none.
     ///
-    /// The take is decided first, and then the grant, both on the graph before the hand. If one is denied, its entry is the only one,
-    /// and the rule of the denial says which it is.
+    /// The take is decided first, and then the grant, both on the graph before the hand. If one of them is denied, its entry is the
+    /// only entry, and the rule of the denial says which it is.
     ///
     /// ```
     /// # use kovshenul::{Denial, Error, Hand, Limits, Rights, Rule, Store, Value};
@@ -258,20 +259,20 @@ impl Store {
         Ok(count)
     }
 
-    /// Returns who holds the right over the vertex with this name, by rising name: workers, objects, and workers that
-    /// retired, of all that a worker reaches. The journal gets no entry. It is `BadRights` if it isn't one right.
+    /// Returns who holds the right over the vertex with this name, by rising name. Holders are workers, objects, and workers that
+    /// retired, if a worker reaches them. The journal gets no entry. It is `BadRights` if it isn't one right.
     pub fn who_holds(&self, right: Rights, name: u64) -> Result<Vec<u64>, Error> {
         self.each_name(|names, room, count| unsafe { raw::tg_who_holds(self.at(), right.bits(), name, names, room, count) })
     }
 
-    /// Withdraws rights over a target. Each worker with a name outside of `keep` removes what it holds of the rights. Each remove has
-    /// an entry, by rising name. Afterwards no worker outside of `keep` holds any of the rights over the target, and all other labels
-    /// are as they were. The call is done whole, or refused.
+    /// Withdraws rights over a target. Each worker with a name outside of `keep` removes those of the rights that it holds. Each remove
+    /// has an entry, by rising name. Afterwards no worker outside of `keep` holds any of the rights over the target, and all other
+    /// labels are as they were. The call is done whole, or refused.
     ///
-    /// Returns who still holds some of the rights, by rising name: kept workers, objects, and workers that retired, of all that the
-    /// workers then reach. If this is nobody and the target was made, no vertex that a worker reaches ever holds one of the rights over
-    /// the target again. Otherwise a worker may take a right back, and [`could`](Store::could) says which. Without `keep` the target
-    /// may be reached by nobody, and then the next full collection frees it.
+    /// Returns who still holds some of the rights, by rising name. They are kept workers, objects, and workers that retired, if the
+    /// workers then reach them. Suppose that this is nobody, and that the target was made. Then no vertex that a worker reaches ever
+    /// holds one of the rights over the target again. Otherwise a worker may take a right back, and [`could`](Store::could) says which.
+    /// Without `keep` the target may be reached by nobody, and then the next full collection frees it.
     ///
     /// A name in `keep` that isn't a worker's is ignored. From a target that was never made nothing is removed.
     ///
@@ -425,7 +426,7 @@ impl Store {
         Ok(names)
     }
 
-    /// Returns how many entries the journal ever had, with those that were given up. The next entry gets this place.
+    /// Returns how many entries the journal ever had, with the entries that were given up. The next entry gets this place.
     pub fn entries(&self) -> Result<u64, Error> {
         let mut count = 0;
         served(unsafe { raw::tg_entries(self.at(), &mut count) })?;

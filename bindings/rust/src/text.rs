@@ -1,4 +1,5 @@
-//! The text of a history, which the program `tgaudit` reads: the lines before the entries, a line for each entry, and the last line.
+//! The text of a history, which the program `tgaudit` reads. It has the lines before the entries, a line for each entry, and the last
+//! line.
 use crate::error::served;
 use crate::raw::{self, RawEdge, RawValue};
 use crate::{Edge, Entry, Error, Limits, Value};

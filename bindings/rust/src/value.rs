@@ -1,8 +1,8 @@
-//! What a call takes and returns, apart from rights and refusals.
+//! The values that calls take and return, apart from rights and refusals.
 use crate::raw::RawTarget;
 use crate::Rights;
 
-/// What a vertex stores at first, and by which law a write changes it.
+/// The value that a vertex stores at first, and the law by which a write changes it.
 #[derive(Clone, Copy, PartialEq, Eq, Hash, Debug)]
 #[non_exhaustive]
 pub enum Value {
@@ -52,10 +52,10 @@ pub struct Hand {
 #[repr(C)]
 #[derive(Clone, Copy, PartialEq, Eq, Hash, Debug)]
 pub struct Limits {
-    /// How many vertices may ever be made, with the workers: from those of the opening to 2^48.
+    /// How many vertices may ever be made, with the workers. It is from the number of workers to 2^48.
     pub max_vertices: u64,
-    /// How many blocks of 64 cells of 64 bytes there may be in all: from 1 to 2^20, and at least one for each worker. They
-    /// bound how many vertices live at once: 65,536 blocks held 3,595,117 of one row.
+    /// How many blocks of 64 cells of 64 bytes there may be in all. It is from 1 to 2^20, and at least one for each
+    /// worker. They bound how many vertices live at once. 65,536 blocks held 3,595,117 vertices of one row.
     pub max_blocks: u64,
     /// How many of them in one space: from 1 to 2^20.
     pub max_space_blocks: u64,
@@ -109,8 +109,9 @@ impl From<&Target> for RawTarget {
     }
 }
 
-/// What the heap has, with the vertices that nobody reaches until a full collection frees them, and how many entries and
-/// collections were made since the store was opened. A refusal without an entry is in none of these numbers.
+/// The sizes of the heap, with the vertices that nobody reaches until a full collection frees them. After them comes how
+/// many entries and collections were made since the store was opened. A refusal without an entry is in none of these
+/// numbers.
 #[repr(C)]
 #[derive(Clone, Copy, Default, PartialEq, Eq, Hash, Debug)]
 pub struct Counts {

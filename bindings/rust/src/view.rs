@@ -13,7 +13,7 @@ use std::ptr::null_mut;
 pub enum Chance {
     /// x never holds it, whatever those who act do.
     Never,
-    /// x was made, and no worker reached it. What it holds stays for good.
+    /// x was made, and no worker reached it. Its rights stay for good.
     Unreached,
     /// The view says nothing of the right. Ask [`Store::could`].
     Perhaps,
@@ -42,16 +42,17 @@ pub struct View {
     place: UnsafeCell<RawView>,
 }
 
-// What the pointer leads to may go to another thread: the library has a function whose bound asks for it (crates/tg_c/src/place.rt).
+// The value at the pointer may go to another thread, because the library has a function whose bound asks for it
+// (crates/tg_c/src/place.rt).
 unsafe impl Send for View {}
 
 // No call of the library unwinds, so none is left half done.
 impl RefUnwindSafe for View {}
 
 impl Store {
-    /// Opens a view of what the workers reach, in which the silent ones take no turns, as if these edges were there too.
-    /// The silent ones are given as to [`Store::could`]. The journal gets no entry. It is refused as `could` is for a silent
-    /// one or a supposed edge.
+    /// Opens a view of the vertices that the workers reach, in which the silent workers take no turns, as if these edges
+    /// were there too. The silent workers are given as to [`Store::could`]. The journal gets no entry. It is refused as
+    /// `could` is for a silent name or a supposed edge.
     pub fn view<'a>(&self, silent: impl Into<Silent<'a>>, as_if: &[Edge]) -> Result<View, Error> {
         let silent = self.silent(silent.into())?;
         let edges: Vec<RawEdge> = as_if.iter().map(RawEdge::from).collect();

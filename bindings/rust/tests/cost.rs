@@ -1,4 +1,4 @@
-//! What a list costs, counted in bytes that the crate asks for, of which clearing and copying take their time.
+//! The cost of a list, counted in bytes that the crate asks for. To clear and copy these bytes takes time.
 use kovshenul::{Limits, Rights, Store, Value};
 use std::alloc::{GlobalAlloc, Layout, System};
 use std::cell::Cell;

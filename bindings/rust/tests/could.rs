@@ -1,4 +1,5 @@
-//! What could ever come about: its answers hold before a collection and after it, and their turns lead there.
+//! Questions about the future. Their answers hold before a collection and after it, and by their turns the
+//! right comes about.
 use kovshenul::{Chance, Could, Deed, Edge, Error, Kind, Limits, Rights, Store, Turn, Value};
 
 fn opened(workers: usize, edges: &[Edge], max_vertices: u64) -> Store {
@@ -84,7 +85,7 @@ fn what_is_refused() {
     assert_eq!(ask(Rights::READ, &[], &[edge(0, 2, Rights::READ)]), Error::BadEdge);
 }
 
-// A view tells of each question what its answer is, as of the moment when it was opened.
+// A view answers each question as the store does, as of the moment when it was opened.
 #[test]
 fn a_view_tells_of_all() {
     let mut store = opened(3, &[edge(0, 1, Rights::GRANT)], 100);

@@ -1,4 +1,4 @@
-//! The journal of a store, read back. It says what was called and what was answered.
+//! The journal of a store, read back. It has the calls and the replies.
 use kovshenul::{
     end_text, opening_text, Auditor, BatchStopped, Deed, Denial, Edge, Entry, Error, Limits, NoSnapshot, Reply, Rights, Rule, Snapshot,
     Stopped, Store, Target, Value,
@@ -190,7 +190,7 @@ fn past_the_end_is_refused() {
     assert_eq!(store.entries(), Ok(1));
 }
 
-// Workers come and go in the order of their names: one retires for each that is spawned, but for the first 62.
+// Workers come and go in the order of their names. One retires for each that is spawned, but for the first 62.
 #[test]
 fn workers_that_come_and_go_are_read_back() {
     let mut store = opened(1000);

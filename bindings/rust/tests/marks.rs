@@ -1,4 +1,5 @@
-//! What the host says of its vertices: names for people, and whom it trusts. No reply depends on it.
+//! Marks of the host on its vertices, which are names for people, and whom the host trusts. No reply
+//! depends on a mark.
 use kovshenul::{Could, Edge, Error, Limits, Reply, Rights, Silent, Store, Value};
 
 fn opened() -> Store {

@@ -323,7 +323,7 @@ fn a_long_row_is_shown() {
     assert_eq!(store.audit(), Ok(203));
 }
 
-// Rows about as long as what is taken at once: each is whole, and one entry.
+// Rows that are about as long as the room that is taken at once. Each is whole, and has one entry.
 #[test]
 fn rows_of_each_length_are_whole() {
     let mut store = opened_with(1, 0, Rights::INSPECT);

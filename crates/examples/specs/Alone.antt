@@ -1,4 +1,4 @@
--- What an owner keeps to itself: some rights over a vertex, which nobody else ever comes to hold.
+-- Some rights over a vertex that an owner keeps to itself. Nobody else ever comes to hold them.
 use Rattle.std.specs.Prelude.{◌≡◌, ◌⊎◌, ℕ, ◌<◌, Bool, true, false, Option}
 use Rattle.tg_rights.specs.RightSet.{has}
 use Rattle.tg_rights.specs.declared.Right.{Right}
@@ -47,7 +47,7 @@ Puts y (Plain (Write target value)) = target ≡ y
 Puts y (Plain (Append target value)) = target ≡ y
 Puts y deed = ⊥
 
--- a reader is told what is stored, or is denied
+-- the reply to a reader is the stored value, or a denial
 abbrev pub TellsOnlyValue : Option Value → Reply → Type 0
 TellsOnlyValue stored reply = (reply ≡ Values (state_of stored)) ⊎ ((denial : Denial) × (reply ≡ Denied denial))
 
@@ -59,6 +59,6 @@ Withholds which owner y e = e.worker ≡ owner → ¬ HandsOn which y e.deed
 abbrev pub LeavesBe : ℕ → ℕ → Entry → Type 0
 LeavesBe owner y e = e.worker ≡ owner → ¬ Puts y e.deed
 
--- if the entry reads y, it tells what is stored here, or is denied
+-- if the entry reads y, its reply is this stored value, or a denial
 abbrev pub ReadsValue : ℕ → Option Value → Entry → Type 0
 ReadsValue y stored e = e.deed ≡ Plain (Read y) → TellsOnlyValue stored e.reply

@@ -1,4 +1,4 @@
--- What contracts see of a desk, and what holds of every one.
+-- The parts of a desk that contracts see, and the facts that hold of every desk.
 use Rattle.std.specs.Prelude.{◌≡◌, ◌≢◌, ℕ, Option}
 use Rattle.tg_model.specs.declared.value.Value.{Value}
 use Rattle.tg_model.specs.Graph.{ProtectionGraph}
@@ -6,7 +6,7 @@ use Rattle.tg_store.specs.Store.{StoreState, graph_of_store}
 use Rattle.examples.specs.declared.stand_in.desk.TheConstants.{OWNER}
 use Rattle.examples.specs.Alone.{changes, each, IsAlone}
 
--- a store, the thing, and what stands in for it
+-- a store, the thing, and its stand-in
 pub record DeskState : Type 0 where
   pub store : StoreState
   pub thing : ℕ
@@ -15,17 +15,17 @@ pub record DeskState : Type 0 where
 abbrev pub graph_of_desk : DeskState → ProtectionGraph
 graph_of_desk d = graph_of_store d.store
 
--- what stands in stores
+-- the value that the stand-in stores
 abbrev pub shown_at : DeskState → Option Value
 shown_at d = (graph_of_desk d).value d.stand_in
 
--- No right over the thing is anybody's but the owner's, nor is one that changes what stands in for it.
+-- Only the owner holds any right over the thing. Only the owner holds a right that changes the stand-in.
 pub record DeskIsKept (d : DeskState) : Type 0 where
   pub apart : d.stand_in ≢ d.thing
   pub thing : IsAlone each OWNER d.thing (graph_of_desk d)
   pub stand_in : IsAlone changes OWNER d.stand_in (graph_of_desk d)
 
--- it is the same desk, whose store stands for another graph
+-- it is the same desk, whose store now represents this graph
 pub record StandsNow (g : ProtectionGraph) (old new : DeskState) : Type 0 where
   pub thing : new.thing ≡ old.thing
   pub stand_in : new.stand_in ≡ old.stand_in

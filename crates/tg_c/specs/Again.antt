@@ -1,4 +1,4 @@
--- What the calls of C do to a store that goes on from a snapshot.
+-- The calls of C on a store that goes on from a snapshot.
 use Rattle.std.specs.Prelude.{◌≡◌, ◌≢◌, ◌⊎◌, ℕ, true, false, [], ◌∷◌, Result, Ok, Err, IfErr, IfOk, List}
 use Rattle.tg_model.specs.Opened.{Plan}
 use Rattle.tg_snapshot.specs.Snapshot.{Saved}
@@ -14,7 +14,7 @@ use Rattle.tg_c.specs.Calls.{AreMet, Demand, IsFirstUnmet, IsStatusWhere, demand
 use Rattle.tg_c.specs.Saved.{saved_in}
 use Rattle.tg_c.specs.Statuses.{status_of}
 
--- what is asked of a snapshot and of the limits, in the order in which it is looked at
+-- the demands on a snapshot and on the limits, in the order in which they are checked
 abbrev pub demands_again : Saved → LimitsIn → List Demand
 demands_again p limits =
     demand (limits.max_vertices ≡ p.picture.limit) refusal.BadLimits
@@ -26,12 +26,12 @@ demands_again p limits =
 abbrev pub IsLackOfRoom : CallRefusal → Type 0
 IsLackOfRoom why = (why ≡ refusal.OutOfMemory) ⊎ (why ≡ refusal.HeapFull)
 
--- why it is refused: by the first demand that isn't met; or all are met, and there was no room
+-- Why it is refused. Either a demand isn't met, and the first one is the reason. Or all are met, and there was no room.
 abbrev pub IsRefusedAgain : Saved → LimitsIn → CallRefusal → Type 0
 IsRefusedAgain p limits why = IsFirstUnmet (demands_again p limits) why ⊎ (AreMet (demands_again p limits) × IsLackOfRoom why)
 
--- The store goes on from the snapshot, all demands being met. The snapshot doesn't have the first opening of all, and no call of C reads
--- it: some opening is in its place.
+-- The store goes on from the snapshot, and all demands are met. The snapshot doesn't have the first opening of all, and no call of
+-- C reads it. Therefore some opening is in its place.
 pub record IsReopenedStore (p : Saved) (limits : LimitsIn) (s : StoreState) : Type 0 where
   pub met : AreMet (demands_again p limits)
   pub plan : Plan

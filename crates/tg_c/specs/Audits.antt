@@ -1,4 +1,4 @@
--- What the calls of C do to an auditor: it has come to a place of a history, and is fed what a store holds from there on.
+-- The calls of C on an auditor. It has come to a place of a history, and is fed the entries that a store holds from there on.
 use Rattle.std.specs.Prelude.{◌≡◌, ◌≢◌, ◌≤◌, ◌<◌, ℕ, true, false, List, take, Result, Ok, Err, IfErr, OnOk}
 use Rattle.tg_model.specs.Opened.{start_of}
 use Rattle.tg_model.specs.Graph.{ProtectionGraph}
@@ -25,19 +25,20 @@ use Rattle.tg_c.specs.Statuses.{of_part, status_of}
 abbrev pub audit_in : AuditorPlace → Audit
 audit_in place = place.handle.opened
 
--- what C gets of a feed: how many entries passed by then in all, or why it was refused
+-- The answer to a feed in C. It is how many entries passed by then in all, or why the feed was refused.
 abbrev pub told_of_feed : ℕ → Result (Unit {0}) PartFault → Result ℕ CallRefusal
 told_of_feed at (Ok done) = Ok at
 told_of_feed at (Err why) = Err (of_part why)
 
--- An audit was fed a journal of these entries, of which it holds those from `first` on. The auditor has its own answer, which is
--- reported.
+-- An audit was fed a journal of these entries, of which it holds the entries from `first` on. The auditor has its own answer, which
+-- is reported.
 pub record FeedsJournal (old new : Audit) (first : ℕ) (entries : List Entry) (answer : Result ℕ CallRefusal) : Type 0 where
   pub fed : Result (Unit {0}) PartFault
   pub part : FeedsPart old.auditor new.auditor first entries fed
   pub told : answer ≡ told_of_feed new.auditor.at fed
 
--- An audit that is where the store's own history stood at the audit's place finds no bad entry in it.
+-- Suppose that an audit represents the graph of the store's own history at the audit's place. Then it finds no bad entry in the
+-- history.
 abbrev pub FindsNone : Audit → StoreState → Result ℕ CallRefusal → Type 0
 FindsNone a s answer = StandsAt (graph_after (start_at s.opening) (take a.auditor.at s.entries)) a.auditor → answer ≢ Err refusal.BadEntry
 
@@ -49,13 +50,13 @@ pub record IsFed (old new : Audit) (store after : StorePlace) (tells : Result �
   pub part : FeedsJournal old new (state_in store).handed (state_in store).entries answer
   pub own : FindsNone old (state_in store) answer
 
--- An audit was fed by the store in an open place, which is the same then; a closed place feeds nothing, and is as it was.
+-- An audit was fed by the store in an open place, which stays the same. A closed place feeds nothing, and is as it was.
 pub record FeedsOpen (old new : Audit) (store after : StorePlace) (tells : Result ℕ CallRefusal → Type 0) : Type 0 where
   pub as_open : after.is_open ≡ store.is_open
   pub not_open : store.is_open ≡ false → tells (Err refusal.NotOpen) × (new ≡ old)
   pub fed : store.is_open ≡ true → IsFed old new store after tells
 
--- A feed of the auditor in a place: a closed one is refused as that, and then all is as it was.
+-- A feed of the auditor in a place. A closed place is refused with `NotOpen`, and then all is as it was.
 pub record Feeds (old new : AuditorPlace) (store after : StorePlace) (tells : Result ℕ CallRefusal → Type 0) : Type 0 where
   pub as_open : new.is_open ≡ old.is_open
   pub not_open : old.is_open ≡ false → tells (Err refusal.NotOpen) × (after ≡ store)
@@ -67,7 +68,7 @@ pub record AsksPlace (old new : AuditorPlace) (tells : Result ℕ CallRefusal �
   pub not_open : old.is_open ≡ false → tells (Err refusal.NotOpen)
   pub told : old.is_open ≡ true → tells (Ok (audit_in old).auditor.at) × (audit_in new ≡ audit_in old)
 
--- The store's entries before a place are given up where the auditor has come as far; the auditor is the same then.
+-- The store's entries before a place are given up if the auditor has come as far. The auditor stays the same.
 pub record ForgetsAudited (old new : AuditorPlace) (store after : StorePlace) (upto : ℕ) (tells : Result (Unit {0}) CallRefusal → Type 0) : Type 0 where
   pub as_open : new.is_open ≡ old.is_open
   pub not_open : old.is_open ≡ false → tells (Err refusal.NotOpen) × (after ≡ store)
@@ -77,7 +78,8 @@ pub record ForgetsAudited (old new : AuditorPlace) (store after : StorePlace) (u
 
 -- ---- a sweep
 
--- Where the audit stood it stands, and what no subject reaches isn't kept any more. Only memory can be refused.
+-- The audit stays at its place and represents the same graphs. Vertices that no subject reaches aren't kept any more. Only memory
+-- can be refused.
 pub record SweepsAudit (old new : Audit) (answer : Result (Unit {0}) CallRefusal) : Type 0 where
   pub stands : (g : ProtectionGraph) → StandsAt g old.auditor → StandsAt g new.auditor
   pub place : (new.auditor.at ≡ old.auditor.at) × (new.auditor.found_bad ≡ old.auditor.found_bad)
@@ -92,13 +94,13 @@ pub record Sweeps (old new : AuditorPlace) (tells : Result (Unit {0}) CallRefusa
 
 -- ---- the opening
 
--- The audit of an opening, all of whose demands are met: it is at the first entry, at the graph of what C asked for.
+-- The audit of an opening, all of whose demands are met. It is at the first entry, and represents the graph that C asked for.
 pub record IsOpenedAudit (a : Audit) (workers : List ValueIn) (edges : List EdgeIn) (limits : LimitsIn) : Type 0 where
   pub met : AreMet (demands_of workers edges limits)
   pub first : a.auditor.at ≡ 0
   pub stands : StandsAt (start_of (plan_given workers edges limits.max_vertices)) a.auditor
 
--- What an opening of C does to the auditor's place. Refused, it leaves the place as it was.
+-- An opening of C changes the auditor's place. If it is refused, it leaves the place as it was.
 pub record OpensAudit (old new : AuditorPlace) (workers : List ValueIn) (edges : List EdgeIn) (limits : LimitsIn) (status : ℕ) : Type 0 where
   pub already_open : old.is_open ≡ true → status ≡ status_of refusal.AlreadyOpen
   pub opened : status ≡ 0 → (new.is_open ≡ true) × IsOpenedAudit (audit_in new) workers edges limits

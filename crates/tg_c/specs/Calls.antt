@@ -1,5 +1,5 @@
--- What the calls of C do to a place and its store. Each but the opening is a call on a place: a closed one is refused
--- as that, and on an open one the store's answer is reported, of which the clauses of the store's own call hold.
+-- The calls of C on a place and its store. Each but the opening is a call on a place. A closed place is refused with `NotOpen`. On
+-- an open place the store's answer is reported, of which the clauses of the store's own call hold.
 use Rattle.std.specs.Prelude.{◌≡◌, ◌≢◌, ◌↔◌, ◌⊎◌, ◌≤◌, ◌<◌, ◌-◌, ◌==◌, ℕ, true, false, List, [], ◌∷◌, Some, None, Result, Ok, Err, IfOk, IfErr, OnOk, OnErr, length, map, IsSome}
 use Rattle.std.specs.List.{IsDistinct}
 use Rattle.tg_rights.specs.RightSet.{RightSet, bits_of}
@@ -53,13 +53,13 @@ use Rattle.tg_c.specs.Forms.{AreValues, HaveLabels, JoinWorkers, label_at, plan_
 use Rattle.tg_c.specs.Records.{entry_at}
 use Rattle.tg_c.specs.Statuses.{of_apply, of_collect, of_create, refused_as, status_of}
 
--- what the store in an open place holds
+-- the state of the store in an open place
 abbrev pub state_in : StorePlace → StoreState
 state_in place = place.handle.opened.store
 
 -- ---- a call on a place
 
--- On an open place the store has an answer of which `holds`, and this is reported; the place stays open.
+-- On an open place the store has an answer of which `holds`, and this answer is reported. The place stays open.
 pub record ServesCall {T E : Type 0} (name : E → CallRefusal) (holds : StoreState → StoreState → Result T E → Type 0)
     (old new : StorePlace) (tells : Result T CallRefusal → Type 0) : Type 0 where
   pub answer : Result T E
@@ -67,19 +67,19 @@ pub record ServesCall {T E : Type 0} (name : E → CallRefusal) (holds : StoreSt
   pub stays_open : new.is_open ≡ true
   pub holds_of : holds (state_in old) (state_in new) answer
 
--- the same, and on a closed place the call is refused as that, and the place stays closed
+-- On an open place the store answers. On a closed place the call is refused with `NotOpen`, and the place stays closed.
 pub record IsCall {T E : Type 0} (name : E → CallRefusal) (holds : StoreState → StoreState → Result T E → Type 0)
     (old new : StorePlace) (tells : Result T CallRefusal → Type 0) : Type 0 where
   pub not_open : old.is_open ≡ false → tells (Err refusal.NotOpen) × (new.is_open ≡ false)
   pub served : old.is_open ≡ true → ServesCall name holds old new tells
 
--- the call is refused for what it asks for, before the store is looked at
+-- the call is refused for its arguments, before the store is looked at
 abbrev pub Refuses : {T : Type 0} → StorePlace → StorePlace → (Result T CallRefusal → Type 0) → CallRefusal → Type 0
 Refuses old new tells why = (new ≡ old) × tells (Err why)
 
 -- ---- commands
 
--- the answer to a command of a worker: the clauses of the store's `apply`
+-- the answer to a command of a worker, with the clauses of the store's `apply`
 pub record Applies (worker : ℕ) (asked : Command) (old new : StoreState) (answer : Result Reply ApplyFault) : Type 0 where
   pub entry : IfOk answer (λ r. Enters old new worker (Plain asked) r)
   pub replied : (g : ProtectionGraph) → StandsFor old g → IfOk answer (λ r. r ≡ answer_of g worker (Plain asked))
@@ -96,7 +96,7 @@ pub record Applies (worker : ℕ) (asked : Command) (old new : StoreState) (answ
 abbrev pub Asks : StorePlace → StorePlace → ℕ → Command → (Result Reply CallRefusal → Type 0) → Type 0
 Asks old new worker asked = IsCall of_apply (Applies worker asked) old new
 
--- A command with a label, of which C tells the bits: where they are none's it is refused, and else the store is asked.
+-- A command with a label, whose bits C passes. If the bits are no label's, it is refused, and else the store is asked.
 pub record AsksWithRights (old new : StorePlace) (worker rights : ℕ) (with_label : RightSet → Command) (tells : Result Reply CallRefusal → Type 0) : Type 0 where
   pub asked : (label : RightSet) → label_at rights ≡ Some label → Asks old new worker (with_label label) tells
   pub bad_rights : label_at rights ≡ None → Refuses old new tells refusal.BadRights
@@ -147,13 +147,14 @@ IsDoneReply (reply.Edges edges) = ⊥
 IsDoneReply reply.VerticesFull = ⊥
 IsDoneReply reply.WorkersFull = ⊥
 
--- a reply that shows as much as this one, or a denial
+-- a reply that shows as much as this reply, or a denial
 abbrev pub IsAlikeOrDenied : Reply → Reply → Type 0
 IsAlikeOrDenied (reply.Values values) r = IsReadOrDenied r
 IsAlikeOrDenied (reply.Edges edges) r = IsListedOrDenied r
 IsAlikeOrDenied one r = IsDoneOrDenied r
 
--- A list and a retire are never denied. What any other shows where it is served it shows on whatever graph, so on one without edges.
+-- A list and a retire are never denied. Each other command shows a reply of one form on every graph on which it is served.
+-- Therefore its form on a graph without edges is enough.
 abbrev pub IsReplyTo : Command → Reply → Type 0
 IsReplyTo command.List r = IsListReply r
 IsReplyTo command.Retire r = IsDoneReply r
@@ -161,7 +162,7 @@ IsReplyTo asked r = IsAlikeOrDenied (reply_on_none asked) r
 
 -- ---- creates and spawns
 
--- the answer to a create of a worker, or to its spawn: the clauses of the store's `make`
+-- the answer to a create of a worker, or to its spawn, with the clauses of the store's `make`
 pub record Makes (kind : Making) (worker : ℕ) (label : RightSet) (value : Value) (old new : StoreState) (answer : Result ℕ CreateFault) : Type 0 where
   pub entry : IfOk answer (λ name. Enters old new worker (deed_making kind label value) (reply.Name name))
   pub made : IfOk answer (IsMadeFor (deed_making kind label value) worker label value old new)
@@ -183,8 +184,8 @@ pub record Makes (kind : Making) (worker : ℕ) (label : RightSet) (value : Valu
   pub limits : new.heap.table.limits ≡ old.heap.table.limits
   pub collections : new.collections ≡ old.collections
 
--- A call that makes what stores this value, over which the worker is to have the rights of these bits: where the bits are no label's it is
--- refused, or else where the value is of no law, and else the store is asked.
+-- A call that makes a vertex which stores this value, and over which the worker is to have the rights of these bits. It is refused
+-- if the bits are no label's, and else if the value is of no law. Else the store is asked.
 pub record MakesOfForms (kind : Making) (old new : StorePlace) (worker rights : ℕ) (value : ValueIn) (tells : Result ℕ CallRefusal → Type 0) : Type 0 where
   pub bad_rights : label_at rights ≡ None → Refuses old new tells refusal.BadRights
   pub bad_law : (label : RightSet) → label_at rights ≡ Some label → value_at value ≡ None → Refuses old new tells refusal.BadLaw
@@ -193,7 +194,7 @@ pub record MakesOfForms (kind : Making) (old new : StorePlace) (worker rights : 
 
 -- ---- collections
 
--- the answer to a collection: the clauses of the store's `collect`
+-- the answer to a collection, with the clauses of the store's `collect`
 pub record CollectsHeap (kind : Kind) (old new : StoreState) (answer : Result ℕ RoomFault) : Type 0 where
   pub swept : IfOk answer (IsSwept kind old new)
   pub blocks : OnOk answer (HasFewBlocks kind 0 old.heap.table new.heap.table)
@@ -247,20 +248,21 @@ pub record AreSubjectNames (old new : StoreState) (answer : Result (List ℕ) Ca
 abbrev pub AsksSubjects : StorePlace → StorePlace → (Result (List ℕ) CallRefusal → Type 0) → Type 0
 AsksSubjects old new = IsCall (λ why. why) AreSubjectNames old new
 
--- names were put into a room as far as it goes, and how many there are was answered; or the call was refused, and the room is as it was
+-- Either names were put into a room as far as it goes, and the answer is how many there are. Or the call was refused, and the room
+-- is as it was.
 abbrev pub IsShown : List ℕ → List ℕ → Result ℕ CallRefusal → Result (List ℕ) CallRefusal → Type 0
 IsShown old new answer (Ok names) = (answer ≡ Ok (length names)) × (new ≡ shown_in names old)
 IsShown old new answer (Err why) = (answer ≡ Err why) × (new ≡ old)
 
--- the journal's entry at a place, where the store holds it
+-- the journal's entry at a place, if the store holds it
 abbrev pub IsEntryAt : ℕ → StoreState → StoreState → Result Entry CallRefusal → Type 0
 IsEntryAt at old new answer = (new ≡ old) × (answer ≡ entry_at old.handed old.entries at)
 
 abbrev pub AsksEntry : StorePlace → StorePlace → ℕ → (Result Entry CallRefusal → Type 0) → Type 0
 AsksEntry old new at = IsCall (λ why. why) (IsEntryAt at) old new
 
--- The answer to a worker that asks what it holds over a vertex: the label as bits, 0 for none. It is refused exactly where no worker
--- has the name.
+-- The answer to a worker that asks for its rights over a vertex. It is the label as bits, or 0 for no label. It is refused exactly
+-- if no worker has the name.
 pub record IsHeldAt (worker target : ℕ) (old new : StoreState) (answer : Result ℕ CallRefusal) : Type 0 where
   pub same : new ≡ old
   pub held : (g : ProtectionGraph) → StandsFor old g → IsSubject g worker → answer ≡ Ok (bits_of (g.label worker target))
@@ -269,8 +271,8 @@ pub record IsHeldAt (worker target : ℕ) (old new : StoreState) (answer : Resul
 abbrev pub AsksRights : StorePlace → StorePlace → ℕ → ℕ → (Result ℕ CallRefusal → Type 0) → Type 0
 AsksRights old new worker target = IsCall (λ why. why) (IsHeldAt worker target) old new
 
--- An audit of the store's own journal is refused exactly if entries were given up or the store was opened again from a snapshot, or else
--- because memory ran out.
+-- An audit of the store's own journal. It is refused with `NotWhole` exactly if entries were given up, or if the store was opened
+-- again from a snapshot. Else it is refused only if memory ran out.
 pub record StoreIsAudited (old new : StoreState) (answer : Result ℕ CallRefusal) : Type 0 where
   pub same : new ≡ old
   pub count : IfOk answer (λ n. n ≡ length old.entries)
@@ -280,8 +282,8 @@ pub record StoreIsAudited (old new : StoreState) (answer : Result ℕ CallRefusa
 abbrev pub Audits : StorePlace → StorePlace → (Result ℕ CallRefusal → Type 0) → Type 0
 Audits old new = IsCall (λ why. why) StoreIsAudited old new
 
--- The entries before a place are given up. It is refused exactly where the place lies before the first entry that is held, or after the
--- last by more than one.
+-- The entries before a place are given up. The call is refused exactly if the place lies before the first entry that is held, or
+-- after the last by more than one.
 pub record ForgetsUpto (upto : ℕ) (old new : StoreState) (answer : Result (Unit {0}) CallRefusal) : Type 0 where
   pub forgotten : OnOk answer (HoldsFrom upto old new)
   pub bad_place : (answer ≡ Err refusal.BadPlace) ↔ ((upto < old.handed) ⊎ (length old.entries < upto))
@@ -292,7 +294,7 @@ Forgets old new upto = IsCall (λ why. why) (ForgetsUpto upto) old new
 
 -- ---- the opening
 
--- something that an opening asks for, and what is told where it doesn't hold
+-- a demand of an opening, and the refusal if it doesn't hold
 pub record Demand : Type 1 where
   pub holds : Type 0
   pub told : CallRefusal
@@ -300,7 +302,7 @@ pub record Demand : Type 1 where
 abbrev pub demand : Type 0 → CallRefusal → Demand
 demand holds told = record { holds = holds; told = told }
 
--- what an opening asks for, in the order in which it is looked at
+-- the demands of an opening, in the order in which they are checked
 abbrev pub demands_of : List ValueIn → List EdgeIn → LimitsIn → List Demand
 demands_of workers edges limits =
     demand (AreValues workers) refusal.BadLaw
@@ -316,25 +318,25 @@ abbrev pub AreMet : List Demand → Type 0
 AreMet [] = Unit {0}
 AreMet (d ∷ ds) = d.holds × AreMet ds
 
--- this is reported of the first that doesn't hold
+-- this is the refusal of the first demand that doesn't hold
 abbrev pub IsFirstUnmet : List Demand → CallRefusal → Type 0
 IsFirstUnmet [] why = ⊥
 IsFirstUnmet (d ∷ ds) why = ((¬ d.holds) × (why ≡ d.told)) ⊎ (d.holds × IsFirstUnmet ds why)
 
--- why an opening is refused: by the first demand that isn't met; or all are met, and memory ran out
+-- Why an opening is refused. Either a demand isn't met, and the first one is the reason. Or all are met, and memory ran out.
 abbrev pub IsRefusedFor : List ValueIn → List EdgeIn → LimitsIn → CallRefusal → Type 0
 IsRefusedFor workers edges limits why =
     IsFirstUnmet (demands_of workers edges limits) why
     ⊎ (AreMet (demands_of workers edges limits) × (why ≡ refusal.OutOfMemory))
 
--- what was made of what an opening asks for, all of whose demands are met
+-- the values that were made from the arguments of an opening, all of whose demands are met
 pub record IsAskedFor (workers : List ValueIn) (edges : List EdgeIn) (limits : LimitsIn) (asked : Asked) : Type 0 where
   pub met : AreMet (demands_of workers edges limits)
   pub opening : asked.opening ≡ plan_given workers edges limits.max_vertices
   pub blocks : asked.blocks ≡ limits_of limits.max_blocks limits.max_space_blocks
   pub drafts : asked.drafts.items ≡ map value_in workers
 
--- The store of an opening, all of whose demands are met: it has no entry, and represents the graph of what C asked for.
+-- The store of an opening, all of whose demands are met. It has no entry, and represents the graph that C asked for.
 pub record IsOpenedStore (s : StoreState) (workers : List ValueIn) (edges : List EdgeIn) (limits : LimitsIn) : Type 0 where
   pub met : AreMet (demands_of workers edges limits)
   pub opening : s.opening ≡ opened_by (plan_given workers edges limits.max_vertices)
@@ -343,15 +345,15 @@ pub record IsOpenedStore (s : StoreState) (workers : List ValueIn) (edges : List
   pub none_collected : s.collections ≡ no_collections
   pub limits_kept : s.heap.table.limits ≡ limits_of limits.max_blocks limits.max_space_blocks
 
--- the refusal is lack of memory, or else this one, and then what it says holds
+-- the refusal is lack of memory, or else this refusal, and then its reason holds
 abbrev pub IsMemoryOr : CallRefusal → Type 0 → CallRefusal → Type 0
 IsMemoryOr fault says why = (why ≡ refusal.OutOfMemory) ⊎ ((why ≡ fault) × says)
 
--- the status is that of a refusal of which this holds
+-- the status of a refusal of which this holds
 abbrev pub IsStatusWhere : (CallRefusal → Type 0) → ℕ → Type 0
 IsStatusWhere which status = (why : CallRefusal) × which why × (status ≡ status_of why)
 
--- What an opening of C does to the place. Refused, it leaves the place as it was.
+-- An opening of C changes the place. If it is refused, it leaves the place as it was.
 pub record Opens (old new : StorePlace) (workers : List ValueIn) (edges : List EdgeIn) (limits : LimitsIn) (status : ℕ) : Type 0 where
   pub already_open : old.is_open ≡ true → status ≡ status_of refusal.AlreadyOpen
   pub opened : status ≡ 0 → (new.is_open ≡ true) × IsOpenedStore (state_in new) workers edges limits

@@ -1,4 +1,4 @@
--- What C asks of what could ever come about, and how it is told: the question of a store in its place, and the answer in another.
+-- The questions of C about the future. A question is asked of a store in its place, and the answer is in another place.
 use Rattle.std.specs.Prelude.{◌≡◌, ◌≢◌, ◌⊎◌, ℕ, ◌==◌, Bool, true, false, List, [], ◌∷◌, Some, Result, Ok, Err, if◌then◌else◌, length, map, slice_get, ok_or}
 use Rattle.std.specs.Option.{IsSome}
 use Rattle.std.specs.List.{All}
@@ -33,28 +33,29 @@ use Rattle.tg_c.specs.Statuses.{status_of}
 abbrev pub AreActive : ProtectionGraph → List ℕ → Type 0
 AreActive g names = All (IsSubject g) names
 
--- what is asked about on a graph: all silent ones are active subjects, and there are the picture of what is reached and the edges
+-- The scene of a question on a graph. All silent subjects are active subjects. The scene has the picture of the reached vertices,
+-- and the edges.
 pub record IsSceneOf (g : ProtectionGraph) (silent : List ℕ) (as_if : List EdgeIn) (scene : SupposedScene) : Type 0 where
   pub active : AreActive g silent
   pub sound : IsSound g
   pub picture : IsReachedPicture scene.picture g
   pub edges : scene.as_if.items ≡ map edge_in as_if
 
--- What is told is so of the graph with the edges that are supposed to be there. All silent ones are active subjects, and each edge
--- joins two that are reached.
+-- The answer is right for the graph with the supposed edges. All silent subjects are active subjects, and each edge joins two
+-- vertices that are reached.
 pub record IsForeseenOn (g : ProtectionGraph) (silent : List ℕ) (as_if : List EdgeIn) (x : ℕ) (right : Right) (y : ℕ) (told : ReachedAnswer) : Type 0 where
   pub active : AreActive g silent
   pub joined : JoinReached g (map edge_in as_if)
   pub told_of : IsToldOf silent (with_edges g (map edge_in as_if)) x right y told
 
--- why it isn't told: a silent one that is no active subject; or there is none, and memory ran out, or an edge that joins no two
--- that are reached
+-- Why there is no answer. Either a silent name is no active subject. Or all are, and memory ran out, or an edge doesn't join two
+-- vertices that are reached.
 abbrev pub IsRefusedOn : ProtectionGraph → List ℕ → List EdgeIn → CallRefusal → Type 0
 IsRefusedOn g silent as_if why =
     ((¬ AreActive g silent) × (why ≡ refusal.NoSuchWorker))
     ⊎ (AreActive g silent × IsMemoryOr refusal.BadEdge (¬ JoinReached g (map edge_in as_if)) why)
 
--- what is asked of the edges and of the two places, in the order in which it is looked at, before the store is
+-- the demands on the edges and on the two places, in the order in which they are checked, before the store is asked
 abbrev pub asked_of_places : StorePlace → Bool → List EdgeIn → List Demand
 asked_of_places place is_open as_if =
     demand (HaveLabels as_if) refusal.BadRights
@@ -62,22 +63,23 @@ asked_of_places place is_open as_if =
     ∷ demand (place.is_open ≡ true) refusal.NotOpen
     ∷ []
 
--- what a question asks for: one right, and then the same
+-- the demands of a question, which are that the bit is a right's, and then the same as above
 abbrev pub asked_first : StorePlace → Bool → List EdgeIn → ℕ → List Demand
 asked_first place is_open as_if right = demand (IsSome (right_of_bit right)) refusal.BadRights ∷ asked_of_places place is_open as_if
 
--- the answer to a question to a store in its place, where the answer's place was open or not
+-- the answer to a question to a store in its place, whether the answer's place was open or not
 pub record IsForeseen (place : StorePlace) (is_open : Bool) (silent : List ℕ) (as_if : List EdgeIn) (x right y : ℕ) (told : ReachedAnswer) : Type 0 where
   pub met : AreMet (asked_first place is_open as_if right)
   pub told_of : (g : ProtectionGraph) → StandsFor (state_in place) g → (r : Right) → right_of_bit right ≡ Some r → IsForeseenOn g silent as_if x r y told
 
--- why a question is refused: by the first demand that isn't met; or all are met, and the store's graph is why, or memory
+-- Why a question is refused. Either a demand isn't met, and the first one is the reason. Or all are met, and the reason is the
+-- store's graph or lack of memory.
 abbrev pub IsRefusedQuestion : StorePlace → Bool → List ℕ → List EdgeIn → ℕ → CallRefusal → Type 0
 IsRefusedQuestion place is_open silent as_if right why =
     IsFirstUnmet (asked_first place is_open as_if right) why
     ⊎ (AreMet (asked_first place is_open as_if right) × ((g : ProtectionGraph) → StandsFor (state_in place) g → IsRefusedOn g silent as_if why))
 
--- What a question of C does. The store is as it was; refused, the answer's place is too.
+-- A question of C. The store is as it was. If the question is refused, the answer's place is as it was too.
 pub record Foresees (old new : StorePlace) (silent : List ℕ) (as_if : List EdgeIn) (x right y : ℕ) (before after : AnswerPlace) (status : ℕ) : Type 0 where
   pub stays : new.is_open ≡ old.is_open
   pub same : old.is_open ≡ true → state_in new ≡ state_in old
@@ -94,7 +96,7 @@ outlook_kind (Could turns) = if length turns.items == 0 then 1 else 2
 outlook_kind (WantsNames turns names) = 3
 outlook_kind Open = 5
 
--- that x isn't reached, or one of these
+-- the kind of an answer, which is one of these kinds, or that x isn't reached
 abbrev pub kind_in : ReachedAnswer → ℕ
 kind_in Unreached = 4
 kind_in (Of answer) = outlook_kind answer
@@ -110,18 +112,18 @@ abbrev pub names_told : ReachedAnswer → ℕ
 names_told Unreached = 0
 names_told (Of answer) = names_answered answer
 
--- the turns that lead there
+-- the turns by which the right comes about
 abbrev pub turns_in : ReachedAnswer → List Turn
 turns_in Unreached = []
 turns_in (Of answer) = turns_of answer
 
--- the turn at a place, counted from 0; there is none after the last
+-- the turn at a place. Places are counted from 0, and there is no turn after the last
 abbrev pub turn_at : ℕ → ReachedAnswer → Result Turn CallRefusal
 turn_at at told = ok_or (slice_get (turns_in told) at) refusal.BadPlace
 
 -- ---- how it is reported
 
--- A call on an answer: a closed one is refused as that, and an open one is as it was.
+-- A call on an answer. A closed answer is refused with `NotOpen`, and an open answer is as it was.
 pub record Consults {T : Type 0} (what : ReachedAnswer → Result T CallRefusal) (old new : AnswerPlace) (tells : Result T CallRefusal → Type 0) : Type 0 where
   pub not_open : old.is_open ≡ false → tells (Err refusal.NotOpen) × (new.is_open ≡ false)
   pub told : old.is_open ≡ true → tells (what old.handle.opened.told) × (new.is_open ≡ true) × (new.handle.opened ≡ old.handle.opened)

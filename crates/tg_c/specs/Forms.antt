@@ -1,4 +1,4 @@
--- What the numbers of C mean: rights as bits, values, edges and limits on the way in; denials and listings on the way out.
+-- The meaning of the numbers of C. Rights as bits, values, edges and limits come in. Denials and listings go out.
 use Rattle.std.specs.Prelude.{ℕ, ◌==◌, ◌&&◌, ◌++◌, List, [], ◌∷◌, Option, Some, None, if◌then◌else◌, nat_le, length, map, take, drop}
 use Rattle.std.specs.Option.{IsSome}
 use Rattle.std.specs.List.{All}
@@ -25,7 +25,7 @@ use Rattle.tg_c.specs.declared.forms.ValueIn.{ValueIn}
 
 -- ---- in
 
--- the label of a set of rights: there is one unless it is empty
+-- the label of a set of rights, if the set isn't empty
 abbrev pub if_some : Option RightSet → Option RightSet
 if_some None = None
 if_some (Some rights) = label_of rights
@@ -34,7 +34,7 @@ if_some (Some rights) = label_of rights
 abbrev pub label_at : ℕ → Option RightSet
 label_at bits = if_some (set_of_bits bits)
 
--- what a vertex is to store: a log begins empty, and keeps from 1 to 64 numbers
+-- The value that a vertex is to store. A log begins empty, and keeps from 1 to 64 numbers.
 abbrev pub value_at : ValueIn → Option Value
 value_at v =
     if v.law == 0 then Some (record { law = law.Cell; state = v.number ∷ [] })
@@ -53,7 +53,7 @@ AreValues workers = All (λ v. IsSome (value_at v)) workers
 abbrev pub HaveLabels : List EdgeIn → Type 0
 HaveLabels edges = All (λ e. IsSome (label_at e.rights)) edges
 
--- the value and the edge that are asked for; where there is none, any other
+-- the value and the edge that are asked for, or any other if there is none
 abbrev pub value_or_cell : Option Value → Value
 value_or_cell (Some value) = value
 value_or_cell None = record { law = law.Cell; state = 0 ∷ [] }
@@ -110,7 +110,7 @@ edge_out e = record { to = e.0; rights = bits_of e.1 }
 abbrev pub edges_shown_in : List (ℕ × RightSet) → List EdgeOut → List EdgeOut
 edges_shown_in edges room = take (length room) (map edge_out edges) ++ drop (length edges) room
 
--- the rights of a label, as bits; 0 where there is none
+-- the rights of a label as bits, or 0 if there is no label
 abbrev pub rights_out : Option RightSet → ℕ
 rights_out None = 0
 rights_out (Some label) = bits_of label

@@ -1,4 +1,4 @@
--- What C gets of rights that a worker hands on.
+-- The answers in C about rights that a worker hands on.
 use Rattle.std.specs.Prelude.{◌≡◌, ◌↔◌, ℕ, Some, None, Result, Ok, Err, IfOk, OnErr}
 use Rattle.tg_rights.specs.RightSet.{RightSet}
 use Rattle.tg_model.specs.Graph.{ProtectionGraph, IsSubject}
@@ -18,7 +18,7 @@ use Rattle.tg_c.specs.Calls.{IsCall, Refuses}
 use Rattle.tg_c.specs.Forms.{denial_out, label_at, rights_out}
 use Rattle.tg_c.specs.Statuses.{of_apply, status_of}
 
--- the answer to a worker that hands rights on: the clauses of the store's `hand`
+-- the answer to a worker that hands rights on, with the clauses of the store's `hand`
 pub record IsHandAnswered (h : Hand) (old new : StoreState) (answer : Result Handed ApplyFault) : Type 0 where
   pub comes : IfOk answer (ComesOfHand h old new)
   pub no_such_worker : (g : ProtectionGraph) → StandsFor old g → (answer ≡ Err apply.NoSuchWorker) ↔ (¬ IsSubject g h.via)
@@ -32,7 +32,7 @@ HandsRights old new h = IsCall of_apply (IsHandAnswered h) old new
 abbrev pub hand_of : HandIn → RightSet → Hand
 hand_of form label = record { via = form.via; from = form.from; to = form.to; target = form.target; rights = label }
 
--- A hand, of which C tells the rights as bits: where they are none's it is refused, and else the store is asked.
+-- A hand, whose rights C passes as bits. If the bits are no label's, it is refused, and else the store is asked.
 pub record HandsOfForm (old new : StorePlace) (form : HandIn) (tells : Result Handed CallRefusal → Type 0) : Type 0 where
   pub asked : (label : RightSet) → label_at form.rights ≡ Some label → HandsRights old new (hand_of form label) tells
   pub bad_rights : label_at form.rights ≡ None → Refuses old new tells refusal.BadRights
@@ -45,7 +45,7 @@ pub record HandOut : Type 0 where
 abbrev pub hand_out : ℕ → DenialOut → HandOut
 hand_out removed denial = record { removed = removed; denial = denial }
 
--- what C gets: which rights were removed again; or which command was denied, and why
+-- The out parameters that C gets. They say which rights were removed again, or which command was denied and why.
 abbrev pub TellsHanded : ℕ → HandOut → HandOut → Result Handed CallRefusal → Type 0
 TellsHanded status old new (Ok (Done back)) = (status ≡ 0) × (new ≡ record { removed = rights_out back; denial = old.denial })
 TellsHanded status old new (Ok (Denied command denial)) = (status ≡ 1) × (new ≡ record { removed = old.removed; denial = denial_out denial })

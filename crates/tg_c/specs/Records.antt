@@ -1,4 +1,4 @@
--- What C reads of an entry of the journal. What a deed or a reply hasn't is 0.
+-- The numbers that C reads of an entry of the journal. A number that a deed or a reply doesn't have is 0.
 use Rattle.std.specs.Prelude.{ℕ, List, [], Result, Err, length, slice_get, ok_or, nat_le, if◌then◌else◌}
 use Rattle.tg_rights.specs.RightSet.{RightSet, bits_of}
 use Rattle.tg_model.specs.declared.command.Command.{Command}
@@ -33,7 +33,7 @@ abbrev pub asked : ℕ → ℕ → ℕ → ℕ → ℕ → DeedOut
 asked kind via target rights value =
     record { kind = kind; law = 0; most = 0; via = via; target = target; rights = rights; value = value }
 
--- what is after the word of a command with this number: via, target, rights and value
+-- the arguments of a command with this number, which are via, target, rights and value
 abbrev pub arguments_out : ℕ → Arguments → DeedOut
 arguments_out kind behind.Bare = asked kind 0 0 0 0
 arguments_out kind (behind.Target target) = asked kind 0 target 0 0
@@ -92,7 +92,7 @@ edges_replied (Values values) = []
 edges_replied VerticesFull = []
 edges_replied WorkersFull = []
 
--- the numbers of a create or a spawn are those that the vertex stored at first
+-- the numbers of a create or a spawn are the numbers that the vertex stored at first
 abbrev pub numbers_replied : Deed → Reply → List ℕ
 numbers_replied (Create label law state) r = state
 numbers_replied (Spawn label law state) r = state
@@ -126,6 +126,7 @@ record_with worker d r number_count edge_count = record {
 abbrev pub record_of : Entry → RecordOut
 record_of e = record_with e.worker (deed_out e.deed) (reply_out e.reply) (length (numbers_entered e)) (length (edges_entered e))
 
--- the entry at a place, counted from 0, of a journal that holds those from `first` on; there is none after the last
+-- The entry at a place of a journal that holds the entries from `first` on. Places are counted from 0, and there is no entry after
+-- the last.
 abbrev pub entry_at : ℕ → List Entry → ℕ → Result Entry CallRefusal
 entry_at first entries at = if nat_le first at then ok_or (slice_get entries at) refusal.BadPlace else Err refusal.BadPlace

@@ -1,4 +1,4 @@
--- What the calls of C do to a store that goes on from entries.
+-- The calls of C on a store that goes on from entries.
 use Rattle.std.specs.Prelude.{◌≡◌, ◌≢◌, ◌⊎◌, ℕ, Bool, true, false, List, [], ◌∷◌, Result, Ok, Err, length}
 use Rattle.tg_journal.specs.declared.entry.Entry.{Entry}
 use Rattle.tg_journal.specs.History.{IsLegalEntry}
@@ -15,7 +15,7 @@ use Rattle.tg_c.specs.Calls.{state_in}
 use Rattle.tg_c.specs.Entered.{IsEntryOf, IsOfNoEntry}
 use Rattle.tg_c.specs.Statuses.{of_resume, refused_as}
 
--- What became of a store that was to go on from an entry, whose place this is. Of a store that was fed a bad entry nothing is said.
+-- The outcome for a store that was to go on from an entry at this place. Nothing is said of a store that was fed a bad entry.
 abbrev pub GoesOn : ℕ → Entry → StoreState → StoreState → Result (Unit {0}) ResumeFault → Type 0
 GoesOn at e old new (Ok done) = (at ≡ length old.entries) × Resumes (e ∷ []) old new
 GoesOn at e old new (Err fault.BadPlace) = (at ≢ length old.entries) × (new ≡ old)
@@ -31,8 +31,7 @@ is_kept (Err fault.Unread) = true
 is_kept (Err fault.BadEntry) = false
 is_kept (Err (fault.NoRoom why)) = true
 
--- The store in an open place was to go on from an entry, and what came of it is reported. The place is closed after a bad
--- entry.
+-- The store in an open place was to go on from an entry, and the outcome is reported. The place is closed after a bad entry.
 pub record GoesOnOpen (at : ℕ) (e : Entry) (old new : StorePlace) (tells : Result (Unit {0}) CallRefusal → Type 0) : Type 0 where
   pub answer : Result (Unit {0}) ResumeFault
   pub told : tells (refused_as of_resume answer)
@@ -44,13 +43,13 @@ pub record GoesOnIn (at : ℕ) (e : Entry) (old new : StorePlace) (tells : Resul
   pub not_open : old.is_open ≡ false → tells (Err refusal.NotOpen) × (new.is_open ≡ false)
   pub served : old.is_open ≡ true → GoesOnOpen at e old new tells
 
--- No entry is given by what was handed in, and the place is as it was.
+-- The record, the numbers and the edges give no entry, and the place is as it was.
 pub record IsNotRead (it : RecordOut) (numbers : List ℕ) (edges : List EdgeOut) (old new : StorePlace) (tells : Result (Unit {0}) CallRefusal → Type 0) : Type 0 where
   pub told : tells (Err refusal.BadValues)
   pub kept : new ≡ old
   pub none : IsOfNoEntry it numbers edges
 
--- An entry is given by what was handed in, and the store was to go on from it.
+-- The record, the numbers and the edges give an entry, and the store was to go on from it.
 pub record IsReadAs (it : RecordOut) (numbers : List ℕ) (edges : List EdgeOut) (at : ℕ) (old new : StorePlace) (tells : Result (Unit {0}) CallRefusal → Type 0) : Type 0 where
   pub entry : Entry
   pub handed_in : IsEntryOf it numbers edges entry

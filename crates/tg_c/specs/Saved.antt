@@ -1,4 +1,4 @@
--- What the calls of C do to a snapshot, and to an auditor that goes on from one.
+-- The calls of C on a snapshot, and on an auditor that goes on from a snapshot.
 use Rattle.std.specs.Prelude.{◌≡◌, ◌≢◌, ◌⊎◌, ℕ, true, false, List, Result, Ok, Err, IfOk, IfErr}
 use Rattle.tg_model.specs.Graph.{ProtectionGraph, IsSound}
 use Rattle.tg_snapshot.specs.Snapshot.{IsSnapshotOf, Saved, graph_shown}
@@ -33,7 +33,7 @@ abbrev pub read_refusal : SnapshotTextFault → CallRefusal
 read_refusal (text_fault.Line line why) = refusal_of_line why
 read_refusal (text_fault.CutOff line) = refusal.BadValues
 
--- the number of the line at fault, where one is reported; else what was there
+-- the number of the line at fault, if a line is reported, else the old number
 abbrev pub line_or : ℕ → ℕ → SnapshotLineFault → ℕ
 line_or old line line_fault.OutOfMemory = old
 line_or old line other = line
@@ -42,7 +42,7 @@ abbrev pub line_told : SnapshotTextFault → ℕ → ℕ
 line_told (text_fault.Line line why) old = line_or old line why
 line_told (text_fault.CutOff line) old = line
 
--- A text wasn't read: for lack of memory, and then no line is reported; or for what it says.
+-- A text wasn't read. Either memory ran out, and then no line is reported. Or the text is at fault.
 abbrev pub IsReadFault : ℕ → ℕ → CallRefusal → Type 0
 IsReadFault line line' why = ((why ≡ refusal.OutOfMemory) × (line' ≡ line)) ⊎ (why ≡ refusal.BadValues)
 
@@ -65,7 +65,7 @@ WritesSnapshot old new tells = (answer : Result (List ℕ) CallRefusal) × AsksT
 
 -- ---- an auditor
 
--- the snapshot of what an audit has come to
+-- the snapshot of the graph to which an audit has come
 pub record IsShownAudit (a : Audit) (answer : Result Saved CallRefusal) : Type 0 where
   pub of : (g : ProtectionGraph) → StandsAt g a.auditor → IfOk answer (λ p. IsSnapshotOf p g)
   pub place : IfOk answer (λ p. p.entries ≡ a.auditor.at)
@@ -80,14 +80,15 @@ pub record Shows (old new : AuditorPlace) (answer : Result Saved CallRefusal) : 
   pub same : old.is_open ≡ true → audit_in new ≡ audit_in old
   pub shown : old.is_open ≡ true → IsShownAudit (audit_in old) answer
 
--- A snapshot of an auditor was to be taken into a place. Refused, it leaves the place as it was.
+-- A snapshot of an auditor was to be taken into a place. If this is refused, the place is as it was.
 pub record SnapshotsAuditor (old new : AuditorPlace) (before after : SnapshotPlace) (status : ℕ) : Type 0 where
   pub already_open : before.is_open ≡ true → (status ≡ status_of refusal.AlreadyOpen) × (new ≡ old)
   pub taken : status ≡ 0 → (after.is_open ≡ true) × Shows old new (Ok (saved_in after))
   pub refused : before.is_open ≡ false → status ≢ 0 → IsStatusWhere (λ why. Shows old new (Err why)) status
   pub kept : status ≢ 0 → after ≡ before
 
--- an audit that goes on from a snapshot: it has come to the graph that the snapshot shows, and to any that it is of
+-- An audit that goes on from a snapshot. It represents the graph that the snapshot shows, and each graph of which it is the
+-- snapshot.
 pub record IsReopenedAudit (p : Saved) (a : Audit) : Type 0 where
   pub stands : StandsAt (graph_shown p) a.auditor
   pub of : (g : ProtectionGraph) → IsSound g → IsSnapshotOf p g → StandsAt g a.auditor

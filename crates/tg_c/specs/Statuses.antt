@@ -1,4 +1,5 @@
--- What C gets of an answer: the status, and what goes to the out parameters. A refused call writes to none of them.
+-- The parts of an answer that C gets. They are the status, and the values of the out parameters. A refused call writes to no out
+-- parameter.
 use Rattle.std.specs.Prelude.{◌≡◌, ℕ, List, Result, Ok, Err, length}
 use Rattle.tg_rights.specs.RightSet.{RightSet}
 use Rattle.tg_model.specs.declared.opening.OpeningFault.{OpeningFault}

@@ -46,7 +46,7 @@ IsOpeningText workers edges limits bytes = AreMet (demands_of workers edges limi
 abbrev pub IsEntryText : RecordOut → List ℕ → List EdgeOut → List ℕ → Type 0
 IsEntryText it numbers edges bytes = (entry : Entry) × IsEntryOf it numbers edges entry × (bytes ≡ entry_text entry)
 
--- why there is no line: no entry is reported so; or one is, and memory ran out
+-- Why there is no line. Either no entry has this record, these numbers and these edges. Or an entry has, and memory ran out.
 abbrev pub IsUnreadEntry : RecordOut → List ℕ → List EdgeOut → CallRefusal → Type 0
 IsUnreadEntry it numbers edges why =
     ((why ≡ refusal.BadValues) × IsOfNoEntry it numbers edges) ⊎ ((why ≡ refusal.OutOfMemory) × (entry : Entry) × IsEntryOf it numbers edges entry)

@@ -12,7 +12,7 @@ use tg_journal::Entry;
 use tg_model::{Cause, Command, Deed, Denial, EdgeList, Law, Numbers, Reply, Rule};
 use tg_rights::{Label, Right, Rights};
 
-/// Whether the record, the numbers and the edges are what `tg_entry` writes for some entry. Takes no memory.
+/// Whether `tg_entry` writes the record, the numbers and the edges for some entry. Takes no memory.
 pub fn is_told(alloc: Global, it: &RecordOut, numbers: &[u64], edges: &[EdgeOut]) -> bool
     ensures told { IsTrue result → IsEntryOf it.now numbers.now edges.now (entry_told it.now numbers.now edges.now) }
     ensures none { result ≡ false → IsOfNoEntry it.now numbers.now edges.now }

@@ -72,8 +72,8 @@ pub fn foresee(
     foreseen
 }
 
-/// What a question about an open store needs. This is the picture of the vertices that its workers reach, and the
-/// supposed edges.
+/// The values that a question about an open store needs. They are the picture of the vertices that its workers reach,
+/// and the supposed edges.
 #[derive(Drop)]
 pub struct SupposedScene {
     /// The picture.

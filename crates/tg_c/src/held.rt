@@ -2,8 +2,8 @@
 //!
 //! An exported function takes no struct with a type parameter. Therefore each kind of thing that C holds has two
 //! structs of its own. They are a handle of 8 bytes and a place of 16 bytes, which has the handle (`place`,
-//! `auditor::place`, `saved::place`, `view::place`, `answer`). The two structs do one thing. They exchange what they
-//! hold for what they are given. All other code is here, once for all kinds.
+//! `auditor::place`, `saved::place`, `view::place`, `answer`). The two structs do one thing. They exchange the value
+//! that they hold for the value that they are given. All other code is here, once for all kinds.
 ghost use Rattle.std.specs.Prelude.{◌≡◌, Bool, true, false, Some};
 ghost use Rattle.std.specs.Fn.{FnOnceReturnsAtMut};
 ghost use Rattle.std.specs.Option.{is_some};
@@ -82,8 +82,8 @@ pub trait Holder<T: Drop + Send> {
         .into_box()
     }
 
-    /// Calls a function on what the place holds, and returns its answer. An open place stays open. A closed place is
-    /// refused with `NotOpen`, and stays closed. Takes no memory.
+    /// Calls a function on the value that the place holds, and returns its answer. An open place stays open. A closed
+    /// place is refused with `NotOpen`, and stays closed. Takes no memory.
     final fn with_open<R, F: FnOnce(&mut T) -> R>(
         &mut self,
         alloc: Global,

@@ -61,8 +61,8 @@ pub extern "C" fn tg_auditor_at(alloc: Global, auditor: &mut AuditorPlace, at: &
     tell_number(calls::at(alloc, auditor), at)
 }
 
-/// Gives up the store's entries before this place, as `tg_forget` does, where the auditor has come as far. `NotAudited`
-/// is answered exactly where the auditor is open and hasn't.
+/// Gives up the store's entries before this place, as `tg_forget` does, if the auditor has come as far. `NotAudited` is
+/// answered exactly if the auditor is open and hasn't.
 #[unsafe(no_mangle)]
 pub extern "C" fn tg_auditor_forget(
     alloc: Global,

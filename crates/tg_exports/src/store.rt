@@ -1,4 +1,5 @@
-//! The functions that C calls. Each returns a status: 0 done, 1 denied, and from 16 on refused (`refusal`).
+//! The functions that C calls. Each returns a status. It is 0 for done, 1 for denied, and 16 or more for refused
+//! (`refusal`).
 ghost use Rattle.std.specs.Prelude.{◌≡◌, false, true, Some, None};
 ghost use Rattle.tg_model.specs.declared.command.Command.TheVariants as command;
 ghost use Rattle.tg_space.specs.declared.kind.Kind.{Kind as KindOf};

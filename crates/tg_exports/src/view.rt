@@ -34,8 +34,8 @@ pub extern "C" fn tg_view_open(
     }
 }
 
-/// Asks a view whether x could ever come to hold a right over y. The answer goes to `kind`: 0 never, 4 that x isn't
-/// reached, 6 unknown. Takes no memory.
+/// Asks a view whether x could ever come to hold a right over y. The answer goes to `kind`. It is 0 for never, 4 if x
+/// isn't reached, and 6 if the answer isn't known. Takes no memory.
 #[unsafe(no_mangle)]
 pub extern "C" fn tg_view_could(
     alloc: Global,

@@ -1,4 +1,5 @@
--- A deed of a kept store: what the store answers, and what is left if the file fails. Each answer is that of the store's own call.
+-- A deed of a kept store, with the answer of the store, and the entries that are left if the file fails. Each answer is the answer
+-- of the store's own call.
 use Rattle.std.specs.Prelude.{◌≡◌, ◌≢◌, ◌↔◌, ◌⊎◌, ℕ, ◌<◌, ◌≤◌, List, [], ◌∷◌, length, Option, Some, Result, Err, IfOk, IfErr, OnErr, OnOk, IsTrue, Vec}
 use Rattle.sqlite_disk.specs.declared.Disk as disk
 use Rattle.tg_rights.specs.RightSet.{RightSet}
@@ -50,7 +51,7 @@ pub record Hands (hand : Hand) (old new : StoreState) (answer : Result Handed Ap
   pub full : answer ≡ Err apply.HeapFull → LacksCellsToHand hand old
   pub refused : OnErr answer (IsUnchanged old new)
 
--- Rights over a target were to be withdrawn from all but these.
+-- Rights over a target were to be withdrawn from all vertices but these names.
 pub record Withdraws {A E : Type 0} (target : ℕ) (rights : RightSet) (keep : List ℕ) (old new : StoreState) (answer : Result (Vec ℕ A) E) : Type 0 where
   pub withdrawn : IfOk answer (λ names. IsWithdrawn target rights keep old new names.items)
   pub refused : OnErr answer (IsUnchanged old new)
@@ -65,15 +66,15 @@ pub record LeavesOrRefuses (worker : ℕ) (old new : StoreState) (answer : Resul
 
 -- ---- if the store is lost
 
--- no entry was made, or all of these
+-- no entry was made, or all of these entries
 abbrev pub AreNoneOr : List Entry → List Entry → Type 0
 AreNoneOr all made = (made ≡ []) ⊎ (made ≡ all)
 
--- no entry was made, or the one by which a worker asks for a vertex
+-- no entry was made, or the entry by which a worker asks for a vertex
 abbrev pub AreOfMaking : ℕ → Deed → List Entry → Type 0
 AreOfMaking worker deed made = (made ≡ []) ⊎ ((answer : Reply) × (made ≡ (record { worker = worker; deed = deed; reply = answer }) ∷ []))
 
--- the entries of a hand, of which these rights were removed again; or the one of the command that the graph denies
+-- the entries of a hand, of which these rights were removed again, or the entry of the command that the graph denies
 abbrev pub AreHandedOn : Hand → List Entry → Type 0
 AreHandedOn h made = (back : Option RightSet) × (made ≡ entries_of_hand h back)
 
@@ -81,7 +82,7 @@ abbrev pub AreDenied : ProtectionGraph → Hand → List Entry → Type 0
 AreDenied g h made = (command : Command) × ((denial : Denial) × ((denied_in_hand g.label g.value h ≡ Some (command, denial))
     × (made ≡ (record { worker = h.via; deed = Plain command; reply = reply.Denied denial }) ∷ [])))
 
--- no entry was made, or those of a hand
+-- no entry was made, or the entries of a hand
 abbrev pub AreOfHand : ProtectionGraph → Hand → List Entry → Type 0
 AreOfHand g h made = (made ≡ []) ⊎ (AreHandedOn h made ⊎ AreDenied g h made)
 

@@ -1,4 +1,4 @@
--- A store and the file that keeps it, and what a batch of commands makes of both.
+-- A store and the file that keeps it, and how a batch of commands changes both.
 use Rattle.std.specs.Prelude.{◌≡◌, ℕ, ◌≤◌, ◌++◌, Bool, true, false, List, [], length, take, drop, IsTrue, Option, Some, None, Result, Ok, Err}
 use Rattle.sqlite_disk.specs.declared.Disk as disk
 use Rattle.tg_keep.specs.Files.{AwaitsBatch, LeavesOpen, MayBeWritten, first_texts}
@@ -44,15 +44,15 @@ pub record KeepsUpTo {D : Type 0} (g : disk.Ghosts D) (place : ℕ) (s : StoreSt
   pub within : place ≤ length s.entries
   pub says : IsTrue (g.is_clean file.disk) → history_of (g.seen file.disk) ≡ kept_lines s.opening.plan (take place s.entries)
 
--- Each content that a crash may leave says the history of the store before a place, and a front of the entries from there on, which are
--- legal. It isn't that of a closed file.
+-- Each content that a crash may leave says the history of the store before a place, and a front of the entries from there on. These
+-- entries are legal. The content isn't the content of a closed file.
 pub record LeavesFrom {D : Type 0} (g : disk.Ghosts D) (place : ℕ) (s : StoreState) (old new : D) : Type 0 where
   pub legal : IsLegal (graph_after (start_at s.opening) (take place s.entries)) (drop place s.entries)
   pub crash : IsTrue (g.is_clean new) → (c : List ℕ) → g.may_leave new c → SaysFront s.opening.plan (take place s.entries) (drop place s.entries) (history_of c)
   pub unclosed : IsTrue (g.is_clean new) → LeavesOpen g.may_leave new
   pub calm : g.is_clean new ≡ g.is_clean old
 
--- What a worker's commands made of a store: all were taken, or those before the first that was refused.
+-- A worker's commands changed a store. All were taken, or the commands before the first that was refused.
 abbrev pub ServesCommands : ℕ → List Command → StoreState → StoreState → Result ℕ BatchFault → Type 0
 ServesCommands worker commands old new (Ok count) = (count ≡ length commands) × Applies worker commands old new
 ServesCommands worker commands old new (Err why) = StopsBatch worker commands old new why

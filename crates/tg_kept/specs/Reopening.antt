@@ -20,7 +20,7 @@ use Rattle.tg_kept.specs.Texts.{kept_lines, text_of_lines}
 abbrev pub IsTextOfLines : List (List ℕ) → List ℕ → Type 0
 IsTextOfLines lines text = (count : ℕ) × (text ≡ text_of_lines lines count)
 
--- The history begins with an opening, and is legal. If the bytes are those of a kept file, they say exactly its lines.
+-- The history begins with an opening, and is legal. If the bytes are the bytes of a kept file, they say exactly its lines.
 pub record SaysHistory (bytes : List ℕ) (history : History) : Type 0 where
   pub plan : Plan
   pub begins : history.start ≡ start.Opened plan

@@ -1,4 +1,4 @@
--- What a file says that keeps a history: the texts of its lines, which are those of the history's text without their line feeds.
+-- The lines of a file that keeps a history. They are the lines of the history's text, without their line feeds.
 use Rattle.std.specs.Prelude.{◌≡◌, ℕ, ◌-◌, ◌≤◌, List, [], ◌∷◌, ◌++◌, length, map, take, codes, decimal}
 use Rattle.std.specs.List.{flat_map}
 use Rattle.tg_model.specs.declared.edge.Edge.{Edge}
@@ -32,11 +32,11 @@ edge_line edge = line_text (line.Edge edge)
 abbrev pub opening_lines : Plan → List (List ℕ)
 opening_lines plan = (limits_line plan.workers plan.limit ∷ map worker_line plan.values) ++ map edge_line plan.edges
 
--- what a file says that keeps these entries after an opening
+-- the lines of a file that keeps these entries after an opening
 abbrev pub kept_lines : Plan → List Entry → List (List ℕ)
 kept_lines plan entries = (first_texts ++ opening_lines plan) ++ map entry_line entries
 
--- The texts are those of the entries, and of a front of others after them.
+-- The texts are the texts of the entries, and of a front of other entries after them.
 abbrev pub SaysFront : Plan → List Entry → List Entry → List (List ℕ) → Type 0
 SaysFront plan entries others texts = (n : ℕ) × (n ≤ length others) × (texts ≡ kept_lines plan (entries ++ take n others))
 
@@ -44,11 +44,11 @@ SaysFront plan entries others texts = (n : ℕ) × (n ≤ length others) × (tex
 abbrev pub ended_line : List ℕ → List ℕ
 ended_line text = text ++ 10 ∷ []
 
--- what was written of a line, without its line feed
+-- the text of a line, without its line feed
 abbrev pub unended : List ℕ → List ℕ
 unended text = take (length text - 1) text
 
--- These lines as the text of a history has them: after the line that names the form of the text, each with a line feed, and then the
--- number of entries.
+-- These lines in the text of a history. They come after the line that names the form of the text, each with a line feed. After them
+-- comes the number of entries.
 abbrev pub text_of_lines : List (List ℕ) → ℕ → List ℕ
 text_of_lines texts count = (version_text ++ flat_map ended_line texts) ++ end_text count

@@ -18,11 +18,11 @@ use tg_payload::{Draft, Payload};
 use tg_rights::Label;
 use tg_store::{ApplyFault, CreateRefused, Hand, Handed};
 
-/// A kept store that was asked for a deed, and what the store answered. All entries that the deed made are on the disk.
+/// A kept store that was asked for a deed, and the answer of the store. All entries that the deed made are on the disk.
 #[derive(Drop)]
 pub struct Answered<D: Disk, P: Payload, T: Drop> {
     pub kept: Kept<D, P>,
-    /// What the store's own call returned, which may be a refusal.
+    /// The answer of the store's own call, which may be a refusal.
     pub answer: T,
 }
 
@@ -34,7 +34,7 @@ pub struct AskedVertex<P: Payload> {
     /// Whether it is an object or a subject.
     pub kind: Making,
     pub label: Label,
-    /// What it is to store.
+    /// The draft of the payload that it is to store.
     pub draft: Draft<P>,
 }
 

@@ -75,7 +75,7 @@ impl<D: Disk, P: Payload> Kept<D, P> {
     ///
     /// `Lost` says that the lines couldn't be put into the file, or that there was no memory for the lines. Then the
     /// store is dropped, and no reply is handed out. A crash leaves all entries from before the call, and a front of
-    /// those that these commands made.
+    /// the entries that these commands made.
     pub fn serve(
         self,
         alloc: Global,

@@ -1,8 +1,8 @@
 //! A store that is kept in a file.
 //!
-//! A [`Kept`] has a store and the file of its history. The file's lines are those of a history's text: the opening, and
-//! a line for each entry. Whoever holds a `Kept` knows that each entry of its store is on the disk. So its store may be
-//! asked anything.
+//! A [`Kept`] has a store and the file of its history. The file's lines are the lines of a history's text, which are
+//! the opening and a line for each entry. Whoever holds a `Kept` knows that each entry of its store is on the disk. So
+//! its store may be asked anything.
 //!
 //! ```text
 //!     kept.serve(worker, commands)

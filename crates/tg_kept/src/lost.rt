@@ -1,4 +1,4 @@
-//! What is left of a store whose file has failed.
+//! The remains of a store whose file has failed.
 use sqlite_disk::Disk;
 use tg_keep::FileFault;
 

@@ -12,8 +12,8 @@ use tg_entries::{History, TextFault, VERSION, read_history, write_end};
 use tg_keep::LineReader;
 use tg_text::{Count, WriteFailed, Written};
 
-/// Reads the bytes of a kept file as a history. Its lines are those of a history's text. A fault has the number of the
-/// line in the file.
+/// Reads the bytes of a kept file as a history. Its lines are the lines of a history's text. A fault has the number of
+/// the line in the file.
 pub(crate) fn read_lines(alloc: Global, file: &[u8]) -> Result<History, TextFault>
     ensures { IfOk result (SaysHistory file.now) }
 {

@@ -63,17 +63,17 @@ fn open_store<D: Disk, P: Payload, M: Maker<P>>(
 }
 
 impl<D: Disk, P: Payload> Kept<D, P> {
-    /// Opens a file that a [`Kept`] has written, and that a crash may have left. What comes after the last whole line
-    /// was never answered, so it is cut off. The lines are read as a history, whose replies are compared with those of
-    /// the rules. Then the deed of each entry is done again. `Ok` has a store with exactly the opening and the entries
-    /// that the file says, and a crash leaves all of them. It goes on from there, by [`Kept::serve`] and the other
-    /// calls.
+    /// Opens a file that a [`Kept`] has written, and that a crash may have left. The bytes after the last whole line
+    /// were never answered, so they are cut off. The lines are read as a history, whose replies are compared with the
+    /// replies of the rules. Then the deed of each entry is done again. `Ok` has a store with exactly the opening and
+    /// the entries that the file says, and a crash leaves all of them. It goes on from there, by [`Kept::serve`] and
+    /// the other calls.
     ///
     /// Payloads come from the maker. The heap has the limits that are given. Memory is taken for the whole file, for
     /// its text, and for the store. Nothing is put into the file.
     ///
     /// The refusals, in the order in which they are looked for. The store isn't made, or is dropped. A refusal that is
-    /// not of the disk leaves a file that says what it said:
+    /// not of the disk leaves a file with the same history:
     ///
     /// - [`KeptOpenFault::File`], as [`LineFile::open`] refuses a file: a call of the disk failed, memory ran out, the file
     ///   is no kept file, or a line is damaged.

@@ -14,7 +14,7 @@ pub struct AskedBatch<'a> {
     pub commands: &'a [Command],
 }
 
-/// A file that was opened after a crash, and what the opening returned.
+/// A file that was opened after a crash, and the outcome of the opening.
 #[derive(Drop)]
 pub struct Returned<D: Disk> {
     pub file: LineFile<D>,
@@ -27,7 +27,7 @@ impl<D: Disk, P: Payload> Kept<D, P> {
     ghost use Rattle.tg_kept.specs.Runs.{LeavesAnsweredBatches, LosesRun, ServesInTurn};
 
     /// Serves batch after batch, as [`Kept::serve`] does, and counts in `answered` how many were answered. If a batch
-    /// is lost, a crash leaves all entries of the batches that were answered, and a front of those of the lost one.
+    /// is lost, a crash leaves all entries of the answered batches, and a front of the entries of the lost batch.
     pub fn serve_all(
         self,
         alloc: Global,

@@ -1,4 +1,4 @@
--- What a batch of commands does in the lock, and what its session knows then.
+-- The effect of a batch of commands in the lock, and the knowledge of its session after it.
 use Rattle.std.specs.Prelude.{◌≡◌, ◌≢◌, ℕ, ◌+◌, ◌<◌, List, ◌++◌, length, take}
 use Rattle.tg_model.specs.declared.command.Command.{Command}
 use Rattle.tg_journal.specs.declared.entry.Entry.{Entry}
@@ -24,12 +24,12 @@ pub record ServesAll (commands : List Command) (old new : LockedState) (before a
   pub signed : new.signed ≡ old.signed ++ sign_all (Session before.worker) applies.made
   pub seen : before.seen ≡ old.signed → after.seen ≡ new.signed
 
--- The command at a place was refused. Those before it were taken, and nothing else was.
+-- The command at a place was refused. The commands before it were taken, and no others.
 pub record StopsServingAt (commands : List Command) (old new : LockedState) (before after : SessionState) (done : ℕ) (why : ApplyFault) : Type 0 where
   pub served : ServesAll (take done commands) old new before after
   pub refused : IsRefusedAt before.worker commands new.store done why
 
--- a batch in the lock stops at a command alone: who asks has looked how long it is
+-- A batch in the lock stops only at a command. Its length was checked before the lock was taken.
 abbrev pub StopsServing : List Command → LockedState → LockedState → SessionState → SessionState → BatchFault → Type 0
 StopsServing commands old new before after TooLong = ⊥
 StopsServing commands old new before after (Stopped done why) = StopsServingAt commands old new before after done why
@@ -57,7 +57,7 @@ pub record StopsAtCall (start : SharedStart) (commands : List Command) (old new 
   pub some : 0 < done → AnswersAll start (take done commands) old new
   pub refused : why ≢ OutOfMemory → AtSeen start new.seen (λ s. IsRefusedAt old.worker commands s done why)
 
--- why a batch of a session was not done to its end, and what it leaves
+-- why a batch of a session was not done to its end, and the state that it leaves
 abbrev pub StopsCalls : SharedStart → List Command → SessionState → SessionState → BatchFault → Type 0
 StopsCalls start commands old new TooLong = new ≡ old
 StopsCalls start commands old new (Stopped done why) = StopsAtCall start commands old new done why

@@ -19,16 +19,16 @@ pub record IsGivenBack (start : SharedStart) (sessions : List SessionState) (sto
   pub faithful : IsFaithful store
   pub gone_on : GoesOn start store
 
--- These are the entries that the store got since it was shared, with who made each. Each of the sessions sees them: it made exactly its
--- own among them, and they begin with those that it has seen.
+-- These are the entries that the store got since it was shared, with the maker of each. Each session sees them. So it made exactly
+-- its own entries among them, and they begin with the entries that it has seen.
 pub record IsSignedBy (start : SharedStart) (store : StoreState) (sessions : List SessionState) (signed : List Signed) : Type 0 where
   pub grown : HasGrownBy start store signed
   pub sees : All (λ s. Sees signed (knowledge s)) sessions
 
--- What was in the lock is the shared store, with later entries. It is handed out where the receipts are right; else all that was
--- handed in comes back, the sessions perhaps in another order. Of a store that is handed out it is said who made each entry since
--- the start. Each single session whose worker the keeper did not end has receipts of all entries of its worker, if it handed out
--- none and took over nobody.
+-- The shared store was in the lock, with later entries. It is handed out if the receipts are right. Else the locked value and the
+-- sessions come back, perhaps in another order. If the store is handed out, it is known who made each entry since the start. Take a
+-- single session that handed out no receipt and took over nobody, and whose worker the keeper did not end. It has receipts of all
+-- entries of its worker.
 pub record EndsRound {L P : Type 0} (start : SharedStart) (locked : LockedState) (sessions : List SessionState) (result : Result StoreState (LockedRefused L P)) : Type 0 where
   pub gone_on : GoesOn start locked.store
   pub store : IfOk result (λ store. store ≡ locked.store)
@@ -42,8 +42,8 @@ pub record EndsRound {L P : Type 0} (start : SharedStart) (locked : LockedState)
 abbrev pub MismatchAtSome : SharedStart → ℕ → List SessionState → Type 0
 MismatchAtSome start least sessions = AtSome start (λ s. (least + count_of sessions ≤ length s.entries) × (¬ MayCloseWith start s sessions))
 
--- A close hands the store out only if no session is missing. What it refuses is due of some journal that may have been in the
--- lock, and the sessions come back, perhaps in another order. Beside the receipts the journal has at least so many entries.
+-- A close hands the store out only if no session is missing. If it refuses, some journal that may have been in the lock has the
+-- reason, and the sessions come back, perhaps in another order. Beside the receipts the journal has at least so many entries.
 pub record ClosesAll {L P : Type 0} (start : SharedStart) (least : ℕ) (sessions : List SessionState) (result : Result StoreState (CloseRefused L P)) : Type 0 where
   pub all : IfOk result (λ store. parts_of sessions ≡ sessions_made start store.entries)
   pub missing : IfErr result (λ refused. refused.why ≡ SessionsMissing → AtSome start (λ s. parts_of sessions < sessions_made start s.entries))

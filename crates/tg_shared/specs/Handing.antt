@@ -1,4 +1,4 @@
--- The outcome of rights that a session's subject hands on, and what its session knows then.
+-- The outcome of a hand, by which a session's subject hands rights on, and the knowledge of its session after it.
 use Rattle.std.specs.Prelude.{◌≡◌, ◌↔◌, ℕ, ◌+◌, List, [], ◌∷◌, ◌++◌, Result, Err, IfOk, OnErr, length}
 use Rattle.tg_model.specs.declared.command.Deed.TheVariants.{Plain}
 use Rattle.tg_model.specs.declared.reply.Reply.TheVariants as reply
@@ -21,7 +21,7 @@ use Rattle.tg_shared.specs.Sessions.{AddsReceipts, AtSeen, HasLooked, IsNobodyAt
 abbrev pub hand_by : ℕ → OwnHand → Hand
 hand_by worker h = record { via = worker; from = h.from; to = h.to; target = h.target; rights = h.rights }
 
--- the entries that were made of a hand: the take, the grant and maybe a remove, or the one command that was denied
+-- The entries that a hand made. They are the take, the grant and maybe a remove, or the one command that was denied.
 abbrev pub entries_handed : Hand → Handed → List Entry
 entries_handed h (Done back) = entries_of_hand h back
 entries_handed h (Denied command denial) = (record { worker = h.via; deed = Plain command; reply = reply.Denied denial }) ∷ []
@@ -37,12 +37,13 @@ pub record ServesHand (hand : OwnHand) (old new : StoreState) (before after : Se
   pub full : result ≡ Err HeapFull → LacksCellsToHand (hand_by before.worker hand) old
   pub refused : OnErr result (RecordsNothing old new before after)
 
--- ---- what a session knows
+-- ---- the knowledge of a session
 
--- A session's subject handed rights on, or one command of the hand was denied. Exactly the receipts of its entries were added, at places
--- that follow one another. The entries came next after these since the start, which the session sees: they begin with those that it had
--- seen, and its own among them are exactly those that it had made. Of a store that may have been in the lock then, the hand made another
--- that may have been there next. The session has then seen the entries before and the new ones.
+-- A session's subject handed rights on, or one command of the hand was denied. Exactly the receipts of its entries were added, at
+-- places that follow one another. The new entries came next after these entries since the start, which the session sees. So these
+-- entries begin with the entries that it had seen, and its own entries among them are exactly the entries that it had made. The
+-- hand made a store that may have been in the lock next out of a store that may have been in the lock then. The session has then
+-- seen the entries before and the new entries.
 pub record HandsAtSeen (start : SharedStart) (hand : OwnHand) (old new : SessionState) (handed : Handed) : Type 0 where
   pub before : List Signed
   pub sees : Sees before (knowledge old)
@@ -50,8 +51,8 @@ pub record HandsAtSeen (start : SharedStart) (hand : OwnHand) (old new : Session
   pub came : AtSeen start before (λ s. AtSeen start new.seen (λ next. ComesOfHand (hand_by old.worker hand) s next handed))
   pub seen : new.seen ≡ before ++ sign_all (Session old.worker) (entries_handed (hand_by old.worker hand) handed)
 
--- Why a session's hand is refused: of a store with exactly the entries that the session has then seen there was no such worker, or the
--- hand was allowed and a cell was lacking; or memory ran out. The receipts are as they were.
+-- Why a session's hand is refused. The first two reasons are reasons of a store with exactly the entries that the session has then
+-- seen. Either it had no such worker, or it allowed the hand and lacked a cell, or memory ran out. The receipts are as they were.
 pub record RefusesHand (start : SharedStart) (hand : OwnHand) (old new : SessionState) (why : ApplyFault) : Type 0 where
   pub looked : HasLooked old new
   pub no_such_worker : why ≡ NoSuchWorker → IsNobodyAtSeen start new.seen old.worker

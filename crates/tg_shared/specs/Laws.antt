@@ -1,4 +1,4 @@
--- What the laws of a round speak of.
+-- The words of the laws of a round.
 use Rattle.std.specs.Prelude.{◌≡◌, ◌+◌, ℕ, List, ◌++◌, false, length, take}
 use Rattle.std.specs.List.{All}
 use Rattle.tg_rights.specs.RightSet.{RightSet}
@@ -42,7 +42,7 @@ pub record StaysWhole (start : SharedStart) (s : StoreState) : Type 0 where
 
 -- ---- workers
 
--- The later store has the entries of this one, and then others.
+-- The later store has the entries of this store, and then others.
 pub record GrowsInto (s later : StoreState) : Type 0 where
   pub entries : List Entry
   pub opening : later.opening ≡ s.opening
@@ -53,7 +53,7 @@ pub record HasNotLeft (start : SharedStart) (all : List Signed) (session : Sessi
   pub alone : IsOnItsOwn start all session
   pub none : retired_behind false session.made ≡ false
 
--- A session was answered a spawn of this worker, and these entries begin with those that it has then seen.
+-- A session's spawn made this worker, and these entries begin with the entries that the session has then seen.
 pub record IsSpawnedIn (start : SharedStart) (all : List Signed) (worker : ℕ) : Type 0 where
   pub before : SessionState
   pub after : SessionState
@@ -63,13 +63,14 @@ pub record IsSpawnedIn (start : SharedStart) (all : List Signed) (worker : ℕ) 
   pub answered : IsAnswered start before after (Spawn label law state) (Name worker)
   pub begins : BeginsWith all after.seen
 
--- The entries of the session's worker among these are exactly those that its own calls made. All begin with those that it has seen.
+-- The entries of the session's worker among these entries are exactly the entries that its own calls made. All begin with the
+-- entries that it has seen.
 pub record KnowsItsOwn (entries : List Entry) (session : SessionState) : Type 0 where
   pub own : own_entries session.worker entries ≡ session.made
   pub begins : BeginsWith entries (entries_of session.seen)
 
--- The worker was a subject after a front of these entries. The graph after all of them is the one after the front, without the worker
--- and what it held.
+-- The worker was a subject after a front of these entries. The graph after all entries is the graph after the front, without the
+-- worker and the rights that it held.
 pub record EndsOnly (start : SharedStart) (seen : List Signed) (worker : ℕ) : Type 0 where
   pub before : List Signed
   pub begins : BeginsWith seen before
@@ -83,7 +84,7 @@ pub record HasExactly (start : SharedStart) (seen : List Signed) (s : StoreState
   pub gone_on : GoesOn start s
   pub grown : HasGrownBy start s seen
 
--- The closed store is the shared one, with later entries. Its entries since the start begin with those that were seen.
+-- The closed store is the shared store, with later entries. Its entries since the start begin with the entries that were seen.
 pub record ClosesOver (start : SharedStart) (seen : List Signed) (closed : StoreState) : Type 0 where
   pub signed : List Signed
   pub has : HasExactly start signed closed

@@ -9,9 +9,9 @@ use Rattle.tg_store.specs.Withdrawing.{AreHoldersOfSome, IsWithdrawn, withdrawin
 use Rattle.tg_shared.specs.Laws.{HasExactly}
 use Rattle.tg_shared.specs.Sessions.{AtSeen, KeeperState, SharedStart, graph_seen, keeper_knowledge}
 
--- The keeper withdrew rights over the target, and these names were returned. Of a store that may have been in the lock when exactly
--- these entries had been made since the start, the withdrawal made another that may have been there next. The keeper sees the entries
--- before. It has made exactly the removes, and has then seen both.
+-- The keeper withdrew rights over the target, and these names were returned. A store may have been in the lock when exactly these
+-- entries had been made since the start. The withdrawal made of it a store that may have been in the lock next. The keeper sees the
+-- entries before. It has made exactly the removes, and has then seen both.
 pub record HasWithdrawn (start : SharedStart) (target : ℕ) (rights : RightSet) (keep : List ℕ) (old new : KeeperState) (names : List ℕ) : Type 0 where
   pub before : List Signed
   pub sees : Sees before (keeper_knowledge old)
@@ -20,8 +20,8 @@ pub record HasWithdrawn (start : SharedStart) (target : ℕ) (rights : RightSet)
   pub seen : new.seen ≡ before ++ sign_all Keeper (withdrawing (graph_seen start before) target rights keep)
   pub next : new.next ≡ old.next
 
--- The graph after these entries is the one after a front of them, without the withdrawn rights. The same vertices are subjects. Those
--- with the names still hold some of the rights.
+-- The graph after these entries is the graph after a front of them, without the withdrawn rights. The same vertices are subjects.
+-- The vertices with these names still hold some of the rights.
 pub record WithdrawsOnly (start : SharedStart) (seen : List Signed) (target : ℕ) (rights : RightSet) (keep names : List ℕ) : Type 0 where
   pub before : List Signed
   pub begins : BeginsWith seen before

@@ -50,8 +50,8 @@ impl<L: Round> Session<L> {
     ///
     /// - `TooLong`, exactly if there are more than [`MOST_BATCH`] commands. The session is then as it was.
     /// - `Stopped`, at the first command that is refused. The commands before it are done, and have their entries and
-    ///   receipts. That command and all after it change nothing. The reason is as [`call`](Session::call) has it. After
-    ///   a retire of its own, also one in the same batch, the session has no such worker.
+    ///   receipts. That command and all after it change nothing. The reason is one of [`call`](Session::call). After a
+    ///   retire of its own, also a retire in the same batch, the session has no such worker.
     ///
     /// Room for all receipts is made before the lock is taken. A batch without commands changes nothing, and takes no
     /// lock.

@@ -33,9 +33,9 @@ impl<L: Round> Session<L> {
     /// such worker, and takes no lock.
     ///
     /// A session knows who made each entry that it has seen. These entries begin with the entries that it had seen
-    /// before. The session's own among them are exactly the entries that its calls made. [`close`](crate::close)
-    /// compares what each session has seen with the journal. So a worker that entered no retire, and that the keeper
-    /// didn't end, is never reported missing
+    /// before. The session's own entries among them are exactly the entries that its calls made.
+    /// [`close`](crate::close) compares what each session has seen with the journal. So a worker that entered no
+    /// retire, and that the keeper didn't end, is never reported missing
     /// ([`a_session_without_a_retire_is_a_subject`](crate::laws::a_session_without_a_retire_is_a_subject)).
     pub fn call<P: Payload, R: Wait>(
         &mut self,

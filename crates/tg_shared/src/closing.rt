@@ -38,12 +38,13 @@ impl<L: Round, P: Payload> Locked<L, P> {
     ghost use Rattle.tg_shared.specs.Sessions.{AddsUp, MayCloseWith, SharesOut, count_of, handed_of, parts_of};
 
     /// Ends a round. It hands out the store if all sessions are given back and their receipts are right. The journal
-    /// has then grown by as many entries as there are receipts, and they are shared out among the sessions. What the
-    /// keeper entered for workers, in ends and withdrawals, is counted beside the receipts, and shared out to nobody.
+    /// has then grown by as many entries as there are receipts, and they are shared out among the sessions. The entries
+    /// that the keeper made for workers, in ends and withdrawals, are counted beside the receipts, and shared out to
+    /// nobody.
     ///
     /// `SessionsMissing` is looked for first. It is returned exactly if the sessions count for fewer than were made.
-    /// `ReceiptMismatch` is returned exactly if they count for as many, and may not close. What was handed in then
-    /// comes back, and the sessions may be in another order. Takes no memory, and for n sessions time as n log n.
+    /// `ReceiptMismatch` is returned exactly if they count for as many, and may not close. The store and the sessions
+    /// then come back, and the sessions may be in another order. Takes no memory, and for n sessions time as n log n.
     ///
     /// In a store that was shared whole (`whole` of `shared_out`) no session has handed out a receipt. If the keeper
     /// made no entry, each entry made since is in exactly one receipt, and the receipts of each session are all its
@@ -80,9 +81,9 @@ impl<L: Round, P: Payload> Locked<L, P> {
     /// right. The journal has then grown by at least as many entries as there are receipts, and entries of the keeper.
     /// If no session is missing, all holds that [`close`](Locked::close) says.
     ///
-    /// `ReceiptMismatch` is the only refusal. It is returned exactly if the sessions that are there may not close. What
-    /// was handed in then comes back, with the sessions in the order of their workers' names. Takes no memory, and for
-    /// n sessions time as n log n.
+    /// `ReceiptMismatch` is the only refusal. It is returned exactly if the sessions that are there may not close. The
+    /// store and the sessions then come back, with the sessions in the order of their workers' names. Takes no memory,
+    /// and for n sessions time as n log n.
     pub fn reclaim(mut self, mut sessions: Vec<Session<L>>) -> Result<Store<P>, LockedRefused<L, P>>
         ensures ends { EndsRound L.start self sessions.items result }
         ensures adds_up { OnOk result (AddsUp (length L.start.entries) (length self.store.entries) self.sessions self.entered sessions.items) }

@@ -142,11 +142,12 @@ impl<L: Round> Keeper<L> {
     /// Ends a worker whose session is elsewhere, also if the session is lost, by one call of
     /// [`Locked::end`](crate::Locked::end) under the lock. The worker gives up each edge that it has, by rising name,
     /// and retires. Returns how many edges it gave up. The entries by which this worker leaves came next after all
-    /// entries that the keeper had seen then, and were legal there (`ended`). They are exactly what the keeper made
-    /// more. So the named worker stopped being a subject, and no other did. [`close_with`](crate::close_with) compares
-    /// what the keeper made with the journal. From then on each call of the worker's session reports that there is no
-    /// such worker. Its receipts stay right. It is closed with as before, or the store is recovered without it
-    /// ([`reclaim`](crate::reclaim)). The store has to be shared so that its keeper may end workers.
+    /// entries that the keeper had seen then, and were legal there (`ended`). They are exactly the entries that the
+    /// keeper made more. So the named worker stopped being a subject, and no other did.
+    /// [`close_with`](crate::close_with) compares what the keeper made with the journal. From then on each call of the
+    /// worker's session reports that there is no such worker. Its receipts stay right. It is closed with as before, or
+    /// the store is recovered without it ([`reclaim`](crate::reclaim)). The store has to be shared so that its keeper
+    /// may end workers.
     ///
     /// If the call is refused, the keeper has made no entry, so nobody is ended (`refused`). Memory ran out, or there
     /// was no such worker after exactly the entries that the keeper has then seen. An end is done as a whole, or is
@@ -173,10 +174,10 @@ impl<L: Round> Keeper<L> {
         ended
     }
 
-    /// The picture of what the active subjects reach, by one call of [`Locked::picture`](crate::Locked::picture) under
-    /// the lock. It is that of the graph after exactly the entries that the keeper has then seen. Sessions wait while
-    /// all reached rows are read. Questions are asked of the picture afterwards, without the lock. It makes no entry
-    /// and no receipt. Fails only when out of memory.
+    /// The picture of the vertices that the active subjects reach, by one call of
+    /// [`Locked::picture`](crate::Locked::picture) under the lock. It is the picture of the graph after exactly the
+    /// entries that the keeper has then seen. Sessions wait while all reached rows are read. Questions are asked of the
+    /// picture afterwards, without the lock. It makes no entry and no receipt. Fails only when out of memory.
     pub fn picture<P: Payload, R: Wait>(
         &mut self,
         rt: &R,

@@ -1,4 +1,4 @@
-//! What receipts say of a history. A function here does nothing. Its `ensures` is the law.
+//! Laws about receipts and histories. A function here does nothing. Its `ensures` is the law.
 ghost use Rattle.std.specs.Prelude.{◌≡◌, ◌+◌, ◌<◌, [], ℕ, List, Option, drop, false, length, take, true};
 ghost use Rattle.std.specs.List.{All, AllPairs, Contains};
 ghost use Rattle.tg_rights.specs.RightSet.{RightSet};
@@ -33,8 +33,8 @@ pub fn receipts_stand_in_order()
 {}
 
 /// Suppose that a journal was handed out in parts that join, and that a worker's receipts of each part match the part.
-/// Then all its receipts match the journal. They are the receipts of the first part, then those of the second, and so
-/// on.
+/// Then all its receipts match the journal. They are the receipts of the first part, then the receipts of the second
+/// part, and so on.
 pub fn receipts_of_parts_match()
     ensures { (entries : List Entry) (parts : List Entries) (worker first : ℕ) (lists : List (List Receipt)) →
         AreParts first entries parts → MatchParts parts worker lists →
@@ -47,25 +47,25 @@ pub fn as_many_receipts_share_out()
         MayClose entries first sessions → length entries ≡ first + count_of sessions → AreSharedOut (drop first entries) sessions }
 {}
 
-/// What [`close`](crate::close) says of receipts, for a service that has kept all parts of a journal. It has also kept
-/// all receipts of each session, whether the session was taken over or not. Suppose that the receipts match part by
-/// part, that no two sessions are of one worker, and that there are as many receipts as entries. Then each entry is in
-/// exactly one receipt. The receipts of each session are all its entries, in their order. The last part may be what the
-/// store still holds.
+/// The law of [`close`](crate::close) for a service that has kept all parts of a journal. It has also kept all receipts
+/// of each session, whether the session was taken over or not. Suppose that the receipts match part by part, that no
+/// two sessions are of one worker, and that there are as many receipts as entries. Then each entry is in exactly one
+/// receipt. The receipts of each session are all its entries, in their order. The last part may have the entries that
+/// the store still holds.
 pub fn kept_parts_share_out()
     ensures { (entries : List Entry) (first : ℕ) (sessions : List SessionState) →
         AreKeptInParts entries first sessions → length entries ≡ first + count_of sessions → AreSharedOut (drop first entries) sessions }
 {}
 
-/// Of a store that was shared whole, no entry made since is handed out while it is shared. So where `close` says from
-/// which place on it has looked, that is the place where the store was shared.
+/// If a store was shared whole, no entry made since is handed out while it is shared. So the place from which on
+/// `close` has looked is the place at which the store was shared.
 pub fn a_whole_journal_is_held()
     ensures { (start : SharedStart) (s : StoreState) → StaysWhole start s → held_from start s ≡ length start.entries }
 {}
 
-/// What a close says of the receipts of a store that was shared whole. Suppose that they may close, and that as many
-/// entries were made since. Then each of these entries is in exactly one receipt, and the receipts of each session are
-/// all its entries, in their order. A session of such a store can't hand out a receipt. So
+/// The law of the receipts of a store that was shared whole. Suppose that they may close, and that as many entries were
+/// made since. Then each of these entries is in exactly one receipt, and the receipts of each session are all its
+/// entries, in their order. A session of such a store can't hand out a receipt. So
 /// [`Locked::close`](crate::Locked::close) and [`close_with`](crate::close_with) have all of this whenever the keeper
 /// made no entry, whatever the sessions' holders did.
 pub fn a_whole_round_is_shared_out()
@@ -86,11 +86,11 @@ pub fn who_left_stays_away()
         HasLeft worker old new → GrowsInto new later → ¬ IsSubject (graph_of_store later) worker }
 {}
 
-/// What a session knows bounds the reasons for which its calls are refused. Its worker was a subject when the store was
-/// shared, or was made by a spawn whose entry the session has seen. Suppose that no retire is among the entries that
-/// the session made, and that the keeper made no entry of its worker. Then the worker is a subject of each store whose
-/// entries the session sees. A session that has looked sees the entries that it has seen. So none of its calls reports
-/// that there is no such worker. A round whose keeper may end nobody needs no premise on the keeper.
+/// The knowledge of a session bounds the reasons for which its calls are refused. Its worker was a subject when the
+/// store was shared, or was made by a spawn whose entry the session has seen. Suppose that no retire is among the
+/// entries that the session made, and that the keeper made no entry of its worker. Then the worker is a subject of each
+/// store whose entries the session sees. A session that has looked sees the entries that it has seen. So none of its
+/// calls reports that there is no such worker. A round whose keeper may end nobody needs no premise on the keeper.
 pub fn a_session_without_a_retire_is_a_subject()
     ensures from_the_start { (start : SharedStart) (all : List Signed) (s : SessionState) →
         Contains (subjects_at start) s.worker → HasNotLeft start all s → ¬ IsNobodyAtSeen start all s.worker }
@@ -98,8 +98,8 @@ pub fn a_session_without_a_retire_is_a_subject()
         IsSpawnedIn start all s.worker → HasNotLeft start all s → ¬ IsNobodyAtSeen start all s.worker }
 {}
 
-/// Where a retire is among the entries that a session made, its worker is a subject of no store whose entries the
-/// session sees.
+/// If a retire is among the entries that a session made, its worker is a subject of no store whose entries the session
+/// sees.
 pub fn a_session_with_a_retire_has_no_subject()
     ensures { (start : SharedStart) (all : List Signed) (s : SessionState) →
         IsOnItsOwn start all s → retired_behind false s.made ≡ true → ¬ IsSubjectAtSeen start all s.worker }
@@ -115,7 +115,7 @@ pub fn what_a_session_has_seen_grows()
     ensures { (start : SharedStart) (old new : SessionState) (deed : Deed) (reply : Reply) → IsAnswered start old new deed reply → BeginsWith new.seen old.seen }
 {}
 
-/// What a session knows of a store whose entries it sees, if the keeper made none of its worker. The entries of its
+/// A session sees the entries of a store, and the keeper made no entry of the session's worker. Then the entries of its
 /// worker since the start are exactly the entries that its own calls made. All entries begin with the entries that it
 /// has seen.
 pub fn a_session_knows_its_own_entries()
@@ -125,7 +125,7 @@ pub fn a_session_knows_its_own_entries()
 
 /// An answer without an entry is an answer on the closed journal. A store with exactly the entries that a session, or
 /// the keeper, has seen has one graph. When the round is closed, the entries since the start begin with these entries.
-/// Then that graph is the one after so many entries of the journal.
+/// Then that graph is the graph after so many entries of the journal.
 pub fn an_answer_is_of_the_closed_journal()
     ensures seen { (start : SharedStart) (seen : List Signed) (s : StoreState) → HasExactly start seen s → graph_of_store s ≡ graph_seen start seen }
     ensures closed { (start : SharedStart) (seen : List Signed) (s closed : StoreState) →
@@ -140,14 +140,14 @@ pub fn a_label_is_of_the_closed_journal()
 {}
 
 /// A subject that the keeper ends stops being a subject, and nobody else does. The graph after the entries that the
-/// keeper has then seen is the one before, without the named worker and what it held.
+/// keeper has then seen is the graph before, without the named worker and the rights that it held.
 pub fn an_end_is_of_the_named_worker()
     ensures { (start : SharedStart) (old new : KeeperState) (worker count : ℕ) → HasEnded start worker old new count → EndsOnly start new.seen worker }
 {}
 
 /// The keeper's withdrawal ends nobody. The same vertices are subjects before and after. The graph after the entries
-/// that the keeper has then seen is the one before, without the withdrawn rights. The names that were returned are of
-/// exactly those who still hold some of the rights.
+/// that the keeper has then seen is the graph before, without the withdrawn rights. The returned names are the names of
+/// exactly the vertices that still hold some of the rights.
 pub fn a_withdrawal_ends_nobody()
     ensures { (start : SharedStart) (old new : KeeperState) (target : ℕ) (rights : RightSet) (keep names : List ℕ) →
         HasWithdrawn start target rights keep old new names → WithdrawsOnly start new.seen target rights keep names }
@@ -164,8 +164,8 @@ pub fn withdrawn_rights_stay_away()
     withdrawn_rights_never_come_back();
 }
 
-/// What a collection of a session returns is the number of vertices of a store with exactly these entries. After a full
-/// one it is the number of vertices that can be reached in the graph after them.
+/// A collection of a session returns the number of vertices of a store with exactly these entries. After a full
+/// collection it is the number of vertices that can be reached in the graph after them.
 pub fn what_is_left_is_counted()
     ensures { (start : SharedStart) (seen : List Signed) (kind : Kind) (number : ℕ) → LeavesAtSeen start seen kind number → AtSeen start seen (IsCountLeft kind number) }
 {}

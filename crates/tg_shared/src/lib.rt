@@ -33,16 +33,16 @@
 //! ([`Session::take_receipts`]). They are compared with the part that has their entries ([`receipts_match`]), and
 //! [`laws`] join the parts. [`Keeper::forget`] and [`Session::forget_receipts`] give entries and receipts up, and keep
 //! their room. Each part begins at the end of the keeper's part before ([`Keeper::next`]). A session that is done goes
-//! into another one ([`Session::take_over`]). A store that is shared whole hands out entries and receipts only at the
-//! close.
+//! into another session ([`Session::take_over`]). A store that is shared whole hands out entries and receipts only at
+//! the close.
 //!
 //! **A client that hangs.** The keeper ends its worker by its name, if the store was shared so ([`Keeper::end`]). It
 //! withdraws rights from workers too ([`Keeper::withdraw`]). In the roll the entries of an end and of a withdrawal are
 //! the keeper's. So the owner of the keeper knows at the close who made each entry ([`close_with`]). A store is also
 //! recovered if a session is lost ([`reclaim`]). Then the returned receipts are at most as many as the entries.
 //!
-//! The book is that of a ledger ([`std::sync::ledger`]). After a successful close there are as many receipts as entries
-//! ('Why the count is known at the close' in docs/inside/ARCHITECTURE.md).
+//! The book is the book of a ledger ([`std::sync::ledger`]). After a successful close there are as many receipts as
+//! entries ('Why the count is known at the close' in docs/inside/ARCHITECTURE.md).
 //!
 //! **Why nothing is refused between an entry and its receipt.** A session makes room for the receipt, and copies the
 //! state of a vertex to be made, before it takes the lock ([`Session::make_room`]). The reply moves into the receipt.

@@ -1,4 +1,4 @@
-//! The value in the lock, and what each call does to it.
+//! The value in the lock, and how each call changes it.
 ghost use Rattle.std.specs.Prelude.{◌≡◌, ◌≢◌, ◌<◌, ◌≤◌, ◌+◌, ◌^◌, ℕ, [], Err, true, IfOk, IfErr, OnOk, OnErr, drop, length, max, min};
 ghost use Rattle.std.specs.List.{All};
 ghost use Rattle.tg_subjects.specs.Subjects.{AreSubjects, names_of};
@@ -62,11 +62,11 @@ impl<L: Round, P: Payload> Locked<L, P> {
     ghost use Rattle.tg_shared.specs.Serving.{Collects, EndsWorker, HasNoted, HasNotedEnd, IsLookedAt, IsMadeAndNoted, IsSpawnedAndNoted, KeepsNumbers, KeepsRound, NotesLeaving, NotesRefusal, RefusesCrowd, ServesCommand};
     ghost use Rattle.tg_shared.specs.Sessions.{AreFresh, HoldsWhenFree, MayNote, MayShare, held_after, keeper_knowledge, knowledge};
 
-    /// The store, and what holds whenever the lock is free (`held`). The store keeps its own promise. Its journal is a
-    /// legal history of its opening, and its heap represents the graph after this history. The store comes from the
-    /// shared store. It has the same opening, limits and earlier entries, and since then exactly the entries that the
-    /// roll has (`grown_by`). One session was made for each subject that the shared store had, and one for each subject
-    /// that was made since. If its start lets the keeper end nobody, the keeper made no entry.
+    /// The store, and the facts that hold whenever the lock is free (`held`). The store keeps its own promise. Its
+    /// journal is a legal history of its opening, and its heap represents the graph after this history. The store comes
+    /// from the shared store. It has the same opening, limits and earlier entries, and since then exactly the entries
+    /// that the roll has (`grown_by`). One session was made for each subject that the shared store had, and one for
+    /// each subject that was made since. If its start lets the keeper end nobody, the keeper made no entry.
     pub fn store(&self) -> &Store<P>
         ensures same { result.now ≡ self.now.store }
         ensures held { HoldsWhenFree L.start self.now }
@@ -94,8 +94,8 @@ impl<L: Round, P: Payload> Locked<L, P> {
 
     /// The keeper looks at all entries since the start, and has then seen them. All else stays as it was. The entries
     /// that the keeper made are exactly the keeper's among all. All begin with the entries that it had seen (`sees`).
-    /// What holds whenever the lock is free is shown too (`held`). The store holds its entries from the place at which
-    /// the keeper's last part ended.
+    /// The facts that hold whenever the lock is free are shown too (`held`). The store holds its entries from the place
+    /// at which the keeper's last part ended.
     pub fn tell(&mut self, keeper: &mut Keeper<L>)
         ensures looks { IsLookedAt L.start self.old self.new (keeper_knowledge keeper.old) }
         ensures next { keeper.old.next ≡ self.old.store.handed }
@@ -108,8 +108,8 @@ impl<L: Round, P: Payload> Locked<L, P> {
     }
 
     /// The session looks at all entries since the start, and has then seen them. All else stays as it was. The entries
-    /// that its own calls made are exactly its own among all. All begin with the entries that it had seen (`sees`).
-    /// What holds whenever the lock is free is shown too (`held`).
+    /// that its own calls made are exactly its own among all. All begin with the entries that it had seen (`sees`). The
+    /// facts that hold whenever the lock is free are shown too (`held`).
     pub fn look(&mut self, session: &mut Session<L>)
         ensures looks { IsLookedAt L.start self.old self.new (knowledge session.old) }
         ensures session { session.new ≡ record session.old { seen = self.old.signed } }
@@ -317,9 +317,9 @@ impl<L: Round, P: Payload> Locked<L, P> {
         self.store.label(session.worker(), target)
     }
 
-    /// The picture of what the active subjects reach on the store's graph, by one call of the store. It changes
-    /// nothing, and makes no entry and no receipt. The lock is held while all reached rows are read. Fails only when
-    /// out of memory.
+    /// The picture of the vertices that the active subjects reach on the store's graph, by one call of the store. It
+    /// changes nothing, and makes no entry and no receipt. The lock is held while all reached rows are read. Fails only
+    /// when out of memory.
     pub fn picture(&self, alloc: Global) -> Result<Picture, AllocError>
         ensures { (g : ProtectionGraph) → StandsFor self.now.store g → IfOk result (λ picture. IsReachedPicture picture g) }
     {
@@ -343,9 +343,9 @@ impl<L: Round, P: Payload> Locked<L, P> {
         journal
     }
 
-    /// Gives up the entries before a place, by one call of the store, where it was shared so as to be handed out in
-    /// parts. They count as handed out to the keeper, and the journal keeps their room. All entries are given up if the
-    /// place is after the last entry, and none if they were all handed out before. No session is touched.
+    /// Gives up the entries before a place, by one call of the store, if it was shared so as to be handed out in parts.
+    /// They count as handed out to the keeper, and the journal keeps their room. All entries are given up if the place
+    /// is after the last entry, and none if they were all handed out before. No session is touched.
     pub fn forget(&mut self, keeper: &mut Keeper<L>, upto: u64)
         requires in_parts { L.start.in_parts ≡ true }
         ensures joined { keeper.old.next ≡ self.old.store.handed }

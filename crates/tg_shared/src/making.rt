@@ -1,4 +1,4 @@
-//! A vertex made for a session, and the receipt of what was entered of it.
+//! A vertex made for a session, and the receipt of its entry.
 ghost use Rattle.std.specs.Prelude.{◌≡◌, ◌+◌, Some, None, IfOk, IfErr};
 ghost use Rattle.tg_store.specs.Made.{IsMadeFor, MayRefuse};
 ghost use Rattle.tg_model.specs.Making.{deed_making};

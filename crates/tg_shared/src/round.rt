@@ -10,8 +10,8 @@ use tg_passes::{BlankRoll, Board, Roll};
 /// One shared store, from [`SharedStore::new`](crate::SharedStore::new) to [`close`](crate::close). Its parameter ties
 /// the sessions to the store. A function that shares a store is generic in it, and is called with `Brand`.
 pub trait Round: Ledger {
-    /// What the store was when it was shared. It also says whether its journal may be handed out in parts until the
-    /// close, and whether its keeper may end workers.
+    /// The store as it was when it was shared. The start also says whether the journal may be handed out in parts until
+    /// the close, and whether the keeper may end workers.
     ghost start: { SharedStart };
 
     /// The name of the ledger by which the keeper and the locked value know the same number. The table by which the
@@ -48,15 +48,15 @@ impl<L: Round> Board for Rolled<L> {
     ghost board = { L.keeper.roll };
 }
 
-/// What is noted of each entry under the lock. The book counts it, and the roll has it.
+/// The notes on each entry under the lock. The book counts the entry, and the roll has it.
 #[derive(Drop)]
 pub(crate) struct Register<L: Round> {
     pub(crate) book: Book<L>,
     pub(crate) roll: Roll<Rolled<L>>,
 }
 
-/// What a round is opened with. It needs the blank of its sessions' ledger, the blank of its keeper's ledger, and a
-/// blank roll. The roll takes a word of memory, and the others take no bytes.
+/// The blanks with which a round is opened. A round needs the blank of its sessions' ledger, the blank of its keeper's
+/// ledger, and a blank roll. The roll takes a word of memory, and the others take no bytes.
 #[derive(Drop)]
 pub struct Blanks {
     pub sessions: Blank,

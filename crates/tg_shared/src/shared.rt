@@ -51,7 +51,7 @@ pub struct SharedRefused<P: Payload> {
     pub store: Store<P>,
 }
 
-/// A round did not end. What was handed in comes back.
+/// A round did not end. The values that were handed in come back.
 #[derive(Drop)]
 pub struct CloseRefused<L: Round, P: Payload> {
     pub store: SharedStore<L, P>,
@@ -107,8 +107,8 @@ impl<L: Round, P: Payload> SharedStore<L, P> {
     }
 
     /// Returns the locked value, for a caller who needs to name it. [`Locked::close`] then says exactly whether the
-    /// round ends. What holds whenever the lock is free holds of it (`held`), as of [`Locked::store`]. Takes no memory,
-    /// and waits for no lock.
+    /// round ends. The facts that hold whenever the lock is free hold of it (`held`), as of [`Locked::store`]. Takes no
+    /// memory, and waits for no lock.
     pub fn into_locked(self) -> Locked<L, P>
         ensures held { HoldsWhenFree L.start result }
     {
@@ -120,9 +120,9 @@ impl<L: Round, P: Payload> SharedStore<L, P> {
     }
 
     /// Returns the locked value, as [`into_locked`](SharedStore::into_locked) does, for a caller that still has the
-    /// keeper. The entries that the lock has counted as the keeper's are exactly those that it made (`sees`). The store
-    /// holds its entries from the place at which the keeper's last part ended. The keeper has then seen all entries,
-    /// and is otherwise as it was.
+    /// keeper. The entries that the lock has counted as the keeper's are exactly the entries that the keeper made
+    /// (`sees`). The store holds its entries from the place at which the keeper's last part ended. The keeper has then
+    /// seen all entries, and is otherwise as it was.
     pub fn into_locked_with(self, keeper: &mut Keeper<L>) -> Locked<L, P>
         ensures held { HoldsWhenFree L.start result }
         ensures entered { result.entered ≡ length keeper.old.made }
@@ -196,7 +196,8 @@ pub fn close<L: Round, P: Payload>(
 /// took over nobody. Then it has receipts of all entries of its worker (`single`). Suppose that a store was shared
 /// whole, and that the keeper made no entry. Then each entry made since is in exactly one receipt, and the receipts of
 /// each session are all its entries (`whole`). The store holds its entries from the place at which the keeper's last
-/// part ended. The keeper has then seen all entries, and is otherwise as it was. Refusals are those of [`close`].
+/// part ended. The keeper has then seen all entries, and is otherwise as it was. The refusals are the refusals of
+/// [`close`].
 pub fn close_with<L: Round, P: Payload>(
     store: SharedStore<L, P>,
     sessions: Vec<Session<L>>,

@@ -59,16 +59,16 @@ impl<L: Round, P: Payload> Locked<L, P> {
 impl<L: Round> Keeper<L> {
     /// Withdraws rights over a target as [`Store::withdraw`](tg_store::Store::withdraw) does, by one call of
     /// [`Locked::withdraw`](crate::Locked::withdraw) under the lock. Each active subject with a name outside of `keep`
-    /// removes what it holds of the rights over the target, whatever its session does. Returns the names of those who
-    /// still hold some of the rights then, by rising name. They are of what the active subjects then reach.
+    /// removes the rights over the target that it holds, whatever its session does. Returns the names of the vertices
+    /// that still hold some of the rights then, by rising name. They are vertices that the active subjects then reach.
     ///
     /// The removes came next after all entries that the keeper had seen then, and were legal there. They are exactly
-    /// what the keeper made more (`withdrawn`). No session has a receipt of them, and
+    /// the entries that the keeper made more (`withdrawn`). No session has a receipt of them, and
     /// [`close_with`](crate::close_with) compares them with the journal. Nobody stops being a subject
     /// ([`a_withdrawal_ends_nobody`](crate::laws::a_withdrawal_ends_nobody)). Suppose that nobody is returned, and that
     /// the target was made. Then no vertex that is reached ever holds one of the rights over the target again
     /// ([`withdrawn_rights_stay_away`](crate::laws::withdrawn_rights_stay_away)). Otherwise a subject may take a right
-    /// back from one who is returned.
+    /// back from a vertex that is returned.
     ///
     /// The keeper makes entries of other workers, as [`end`](Keeper::end) does. So the store has to be shared so that
     /// its keeper may end workers. The call is refused only if memory runs out. The keeper has then made no entry, so

@@ -35,12 +35,12 @@ pub record Pays (part old new : Portion) : Type 0 where
   pub vertices : new.vertices + part.vertices ≡ old.vertices
   pub entries : new.entries + part.entries ≡ old.entries
 
--- exactly this was taken for what was done, and nothing where it is refused
+-- exactly this part was taken for the call, and nothing if the call was refused
 pub record PaysFor {T E : Type 0} (part old new : Portion) (result : Result T E) : Type 0 where
   pub paid : OnOk result (Pays part old new)
   pub unpaid : OnErr result (new ≡ old)
 
--- A spawn costs a vertex and its entry. One that is refused since too many subjects are active costs the entry that it made.
+-- A spawn costs a vertex and its entry. A spawn that is refused because too many subjects are active costs the entry that it made.
 pub record PaysForSpawn {P T : Type 0} (old new : Portion) (result : Result T (CreateRefused P)) : Type 0 where
   pub paid : OnOk result (Pays one_vertex old new)
   pub crowded : IfErr result (λ refused. refused.why ≡ fault.WorkersFull → Pays one_entry old new)
@@ -50,19 +50,21 @@ pub record PaysForSpawn {P T : Type 0} (old new : Portion) (result : Result T (C
 abbrev pub CanPayForVertex : Portion → Type 0
 CanPayForVertex purse = (0 < purse.vertices) × (0 < purse.entries)
 
--- A purse has too few of these for a vertex with its entry, and for handing a part on besides. Of vertices it is said first.
+-- A purse has too few vertices or entries for a vertex with its entry, and for handing a part on besides. A lack of vertices is
+-- reported first.
 abbrev pub LacksToMake : Portion → Portion → Lack → Type 0
 LacksToMake part purse Vertices = purse.vertices ≤ part.vertices
 LacksToMake part purse Entries = (part.vertices < purse.vertices) × (purse.entries ≤ part.entries)
 
--- A purse has too few entries for a worker to leave this graph: one for each of its edges, and one for its retire.
+-- A purse has too few entries for a worker to leave this graph. A leave takes an entry for each of its edges, and an entry for its
+-- retire.
 abbrev pub LacksToLeave : ProtectionGraph → ℕ → Portion → Type 0
 LacksToLeave g worker purse = purse.entries ≤ length (listing_of g.label g.made worker)
 
 -- ---- in the lock
 
--- A worker leaves, and pays an entry for each edge that it gives up and one for its retire; or nothing is changed and nothing paid, since
--- there is no such worker, the purse has too few entries, or memory ran out.
+-- Either a worker leaves, and pays an entry for each edge that it gives up and an entry for its retire. Or nothing is changed and
+-- nothing is paid. Then there is no such worker, the purse has too few entries, or memory ran out.
 pub record LeavesPaying (old new : StoreState) (before after : SessionState) (full rest : Portion) (result : Result ℕ LeaveFault) : Type 0 where
   pub left : OnOk result (HasLeft before.worker old new)
   pub count : (g : ProtectionGraph) → StandsFor old g → IfOk result (λ count. count ≡ length (listing_of g.label g.made before.worker))
@@ -74,8 +76,8 @@ pub record LeavesPaying (old new : StoreState) (before after : SessionState) (fu
   pub never_full : result ≢ Err (Store HeapFull)
   pub refused : OnErr result (RecordsNothing old new before after × (rest ≡ full))
 
--- So many vertices and entries may be shared out of a store with these blanks, by the ledgers that have these names and so many parts:
--- the blanks are the ledgers', there is a part for each vertex and each entry, and no more vertices than may still be made.
+-- So many vertices and entries may be shared out of a store with these blanks. The ledgers have these names and so many parts. The
+-- blanks are the ledgers'. There is a part for each vertex and each entry, and so many vertices may still be made.
 pub record MayShareOut (vertices vertex_parts entries entry_parts : ℕ) (blanks : PurseBlanks) (whole : Portion) (store : StoreState) : Type 0 where
   pub of_vertices : (blanks.vertices.name ≡ vertices) × (blanks.vertices.parts ≡ vertex_parts) × (blanks.vertices.parts ≡ whole.vertices)
   pub of_entries : (blanks.entries.name ≡ entries) × (blanks.entries.parts ≡ entry_parts) × (blanks.entries.parts ≡ whole.entries)
@@ -87,12 +89,12 @@ IsCovered left s = (graph_of_store s).made + left ≤ (graph_of_store s).limit
 
 -- ---- under the lock
 
--- A command of the session's subject has exactly one receipt more, with some reply, as `IsAnswered` has it.
+-- A command of the session's subject has exactly one receipt more, with some reply, as `IsAnswered` says.
 abbrev pub IsAnsweredSomehow : SharedStart → SessionState → SessionState → Deed → Type 0
 IsAnsweredSomehow start old new deed = (reply : Reply) × IsAnswered start old new deed reply
 
--- The purse has too few entries for the session's worker to leave a store that may have been in the lock, and that has exactly the
--- entries that the session has seen. The fault says so.
+-- The purse has too few entries for the session's worker to leave a store. That store may have been in the lock, and has exactly
+-- the entries that the session has seen. The fault says so.
 abbrev pub LacksToLeaveAtSeen : SharedStart → SessionState → Portion → ShareFault → Type 0
 LacksToLeaveAtSeen start session purse why =
     (why ≡ record { worker = session.worker; lacks = Entries }) × AtSeen start session.seen (λ s. LacksToLeave (graph_of_store s) session.worker purse)

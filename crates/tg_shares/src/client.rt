@@ -31,7 +31,7 @@ impl<L: Round, V: Ledger, E: Ledger> Client<L, V, E> {
     /// the last of the session's, which has the reply of the rules. The purse pays one entry for it. A refused command
     /// adds no receipt and costs nothing.
     ///
-    /// The purse needs an entry, and [`Purse::may_enter`] is the test. The refusals are those of
+    /// The purse needs an entry, and [`Purse::may_enter`] is the test. The refusals are the refusals of
     /// [`Session::call`](tg_shared::Session::call).
     pub fn call<P: Payload, R: Wait>(
         &mut self,
@@ -62,7 +62,7 @@ impl<L: Round, V: Ledger, E: Ledger> Client<L, V, E> {
     /// pays one vertex and one entry for it. Whatever other clients made, this call never reports that no more vertices
     /// may be made. A refused call adds no receipt, costs nothing, and hands the draft back.
     ///
-    /// The purse needs a vertex and an entry, and [`Purse::may_make`] is the test. The refusals are those of
+    /// The purse needs a vertex and an entry, and [`Purse::may_make`] is the test. The refusals are the refusals of
     /// [`Session::create`](tg_shared::Session::create) without `VerticesFull`.
     pub fn create<P: Payload, R: Wait>(
         &mut self,
@@ -100,7 +100,7 @@ impl<L: Round, V: Ledger, E: Ledger> Client<L, V, E> {
     /// and the purse pays one entry for it. A call that is refused otherwise adds no receipt and costs nothing. A
     /// refused draft is handed back.
     ///
-    /// The purse needs a vertex and an entry, and [`Purse::may_make`] is the test. The refusals are those of
+    /// The purse needs a vertex and an entry, and [`Purse::may_make`] is the test. The refusals are the refusals of
     /// [`Session::spawn`](tg_shared::Session::spawn) without `VerticesFull`.
     pub fn spawn<P: Payload, R: Wait>(
         &mut self,

@@ -2,7 +2,7 @@
 use tg_store::ApplyFault;
 use thiserror::Error;
 
-/// Of what a purse has too few.
+/// The kind of share of which a purse has too few.
 #[derive(Clone, Copy, PartialEq, Eq, Debug, Error)]
 pub enum Lack {
     /// Vertices that may still be made.

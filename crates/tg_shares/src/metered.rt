@@ -27,8 +27,8 @@ pub(crate) struct Metered<L: Round, V: Ledger, E: Ledger, P: Payload> {
     ghost paid: { ArePaid till locked },
 }
 
-/// What a shared store with shares starts from. There is a session for each active subject, by rising name, its one
-/// keeper, and the purse that has all shares.
+/// The start of a shared store with shares. It has a session for each active subject, by rising name, the one keeper,
+/// and the purse that has all shares.
 #[derive(Drop)]
 pub(crate) struct OpenedStore<L: Round, V: Ledger, E: Ledger, P: Payload> {
     pub(crate) metered: Metered<L, V, E, P>,
@@ -50,9 +50,9 @@ impl<L: Round, V: Ledger, E: Ledger, P: Payload> Metered<L, V, E, P> {
     ghost use Rattle.tg_shares.specs.Shares.{CanPayForVertex, LeavesPaying, MayShareOut, PaysFor, PaysForSpawn, one_entry, one_vertex};
 
     /// Shares a store as [`Locked::open`] does, and hands out a purse with so many vertices and entries. From then on
-    /// clients pay for all vertices and entries out of this purse. The first blanks are those of the round. The others
-    /// have as many parts as the purse has vertices and entries, and so many vertices may still be made. All are spent.
-    /// Fails only when out of memory, and hands the store back.
+    /// clients pay for all vertices and entries out of this purse. The first blanks are the blanks of the round. The
+    /// other blanks have as many parts as the purse has vertices and entries, and so many vertices may still be made.
+    /// All are spent. Fails only when out of memory, and hands the store back.
     pub(crate) fn open(
         alloc: Global,
         blanks: Blanks,
@@ -121,8 +121,8 @@ impl<L: Round, V: Ledger, E: Ledger, P: Payload> Metered<L, V, E, P> {
         self.locked.tell(keeper);
     }
 
-    /// Takes a command of the session's subject, by one call of [`Locked::apply`]. An entry is paid for, and nothing
-    /// where it is refused.
+    /// Takes a command of the session's subject, by one call of [`Locked::apply`]. An entry is paid for, or nothing if
+    /// the command is refused.
     pub(crate) fn apply(
         &mut self,
         client: &mut Client<L, V, E>,
@@ -145,7 +145,7 @@ impl<L: Round, V: Ledger, E: Ledger, P: Payload> Metered<L, V, E, P> {
     }
 
     /// Makes a vertex of the session's subject, by one call of [`Locked::create`]. It is never answered that no more
-    /// vertices may be made, whatever was done before, by whomever. A vertex is paid for, and nothing where it is
+    /// vertices may be made, whatever was done before, by whomever. A vertex is paid for, or nothing if the call is
     /// refused.
     pub(crate) fn create(
         &mut self,
@@ -178,7 +178,7 @@ impl<L: Round, V: Ledger, E: Ledger, P: Payload> Metered<L, V, E, P> {
     /// Makes a subject with its session, by one call of [`Locked::spawn`]. It never reports that no more vertices may
     /// be made, whatever anybody did before. A new subject costs a vertex and an entry. A refusal because too many
     /// subjects are active costs an entry, because it has one. Any other refusal costs nothing. The new session's share
-    /// is what its maker then splits off.
+    /// is the part that its maker then splits off.
     pub(crate) fn spawn(
         &mut self,
         client: &mut Client<L, V, E>,

@@ -50,9 +50,9 @@ impl PurseBlanks {
     }
 }
 
-/// What its holder may still take of a store with shares. It is so many vertices that may be made, and so many entries.
-/// It isn't copied. A purse has no more what it gives to another purse. A purse that is dropped is lost with what is in
-/// it.
+/// The shares that its holder may still take of a store. They are so many vertices that may be made, and so many
+/// entries. A purse isn't copied. It has no more the part that it gives to another purse. A purse that is dropped is
+/// lost with its shares.
 ///
 /// Contracts see the `Portion` that is in it.
 #[derive(Drop)]
@@ -91,7 +91,7 @@ impl<V: Ledger, E: Ledger> Purse<V, E> {
         self.entries
     }
 
-    /// Hands a part on, as a purse of its own. Refused, with the purse as it was, exactly where it has fewer vertices,
+    /// Hands a part on, as a purse of its own. Refused, with the purse as it was, exactly if it has fewer vertices,
     /// which are looked at first, or fewer entries. Takes no memory.
     pub fn split_off(&mut self, part: Portion) -> Result<Purse<V, E>, Lack>
         ensures part { IfOk result (λ fresh. fresh ≡ part) }
@@ -157,7 +157,7 @@ impl<V: Ledger, E: Ledger> Purse<V, E> {
         Ok(())
     }
 
-    /// Whether its holder, a worker, may make an entry. Refused exactly where the purse has none.
+    /// Whether its holder, a worker, may make an entry. Refused exactly if the purse has no entry.
     pub fn may_enter(&self, worker: u64) -> Result<(), ShareFault>
         ensures may { OnOk result (0 < self.now.entries) }
         ensures lacks { (result ≡ Err (record { worker = worker; lacks = Lack.Entries })) ↔ (self.now.entries ≡ 0) }
@@ -215,10 +215,10 @@ impl<V: Ledger, E: Ledger> Purse<V, E> {
     }
 }
 
-/// What purses have paid into. It has the parts of the two ledgers for vertices and entries that were made.
+/// The till into which purses pay. It has the parts of the two ledgers for vertices and entries that were made.
 ///
-/// Contracts see what is left in all purses, also in those that were dropped. They see how many entries there were
-/// before, and how many were given out then.
+/// Contracts see the shares that are left in all purses, also in purses that were dropped. They see how many entries
+/// there were before, and how many were given out then.
 #[derive(Drop)]
 pub struct Till<L: Round, V: Ledger, E: Ledger> {
     made: Share<V>,

@@ -44,9 +44,9 @@ impl<L: Round, V: Ledger, E: Ledger, P: Payload> MeteredStore<L, V, E, P> {
     /// vertices and entries. Each vertex that a client makes, and each entry of a client's call, is paid out of this
     /// purse or a part of it.
     ///
-    /// The first blanks are those of the round. The others have as many parts as the purse has vertices and entries
-    /// ([`PurseBlanks::new`]), and so many vertices may still be made. All are spent. Fails only when out of memory,
-    /// and hands the store back.
+    /// The first blanks are the blanks of the round. The other blanks have as many parts as the purse has vertices and
+    /// entries ([`PurseBlanks::new`]), and so many vertices may still be made. All are spent. Fails only when out of
+    /// memory, and hands the store back.
     pub fn new(
         alloc: Global,
         blanks: Blanks,

@@ -1,5 +1,5 @@
--- What is written for a script whose workers run their lines side by side. Nothing here knows of threads, or of how replies are
--- kept and put out; of the lock only that some store may have been after it.
+-- The text that is written for a script whose workers run their lines side by side. These definitions leave out threads, and how
+-- replies are kept and written. Of the lock they say only that some store may have been in it.
 use Rattle.std.specs.Prelude.{◌≡◌, ◌≢◌, ◌⊎◌, ℕ, ◌==◌, Bool, true, false, if◌then◌else◌, nat_lt, List, [], ◌∷◌, ◌++◌, length, Option, Some, None}
 use Rattle.std.specs.List.{All, filter}
 use Rattle.std.specs.Option.{option_to_list}
@@ -48,11 +48,12 @@ pub record Arena : Type 0 where
 abbrev pub arena_of : SharedStart → ℕ → List Entry → Arena
 arena_of shared helpers entries = record { shared = shared; helpers = helpers; entries = entries }
 
--- This holds of some store that may have been in the lock, and whose entries since it was shared are the first of these.
+-- This holds of some store that may have been in the lock. Its entries since it was shared are the first of these entries.
 abbrev pub AtFront : SharedStart → List Entry → (StoreState → Type 0) → Type 0
 AtFront shared entries holds = AtSome shared (λ s. BeginsWith entries (since shared s) × holds s)
 
--- A collection left so many vertices: of two such stores with the same entries, it made the second out of the first.
+-- A collection left so many vertices. Two stores with the same entries may have been in the lock, and it made the second out of the
+-- first.
 abbrev pub LeavesAtFront : SharedStart → List Entry → Kind → ℕ → Type 0
 LeavesAtFront shared entries k number = AtFront shared entries (λ old. AtFront shared entries (λ new. (new.entries ≡ old.entries) × IsSwept k old new number))
 
@@ -73,25 +74,27 @@ abbrev pub is_retire_of : ℕ → Line → Bool
 is_retire_of x (line.Plain y Retire) = y == x
 is_retire_of x l = false
 
--- Whose lines are run after this one: a worker's are not, where this is its retire and has its entry.
+-- The workers whose lines are run after this line. A worker's lines aren't run any more if this line is its retire and has its
+-- entry.
 abbrev pub served_behind : (ℕ → Bool) → Line → Option Entry → ℕ → Bool
 served_behind served l None = served
 served_behind served l (Some e) = λ x. if is_retire_of x l then false else served x
 
--- ---- what is reported of one line: the entry that it made, if any, and the answer
+-- ---- the report on one line, which is the entry that it made, if any, and the answer
 
 -- refused, without an entry
 abbrev pub IsRefused : Refusal → Option Entry → Answer → Type 0
 IsRefused r e a = (e ≡ None) × (a ≡ told.Refused r)
 
--- the nursery of x has not and gets not the cells that the deed asks for: of those that add an edge or make a vertex alone
+-- the nursery of x lacks the cells that the deed asks for, and can't get them. Only a deed that adds an edge or makes a vertex asks
+-- for cells
 abbrev pub LacksCellsOf : StoreState → ℕ → Deed → Type 0
 LacksCellsOf s x (deed.Create label law state) = LacksCellsFor s.heap.table (nursery_space (nursery_of s.heap x)) 1 x (graph_of_store s).made
 LacksCellsOf s x (deed.Spawn label law state) = LacksCellsFor s.heap.table (nursery_space (nursery_of s.heap x)) 1 x (graph_of_store s).made
 LacksCellsOf s x (deed.Plain command) = AddsEdge command × LacksCellsToServe s.heap.table (nursery_of s.heap x) x command
 
--- A refusal of the store, to this deed of a worker that is a subject: memory ran out; or room in the heap did, and then of a store
--- with the first of these entries the deed was allowed, and lacked cells.
+-- The store refused this deed of a worker that is a subject. Either memory ran out, or room in the heap ran out. In the second case
+-- a store with the first of these entries allowed the deed, and lacked cells for it.
 abbrev pub IsOfStore : SharedStart → List Entry → ℕ → Deed → Refusal → Type 0
 IsOfStore shared entries x d refusal.Memory = Unit {0}
 IsOfStore shared entries x d refusal.Heap = AtFront shared entries (λ s. IsAllowed (graph_of_store s) x d × LacksCellsOf s x d)
@@ -101,7 +104,7 @@ IsOfStore shared entries x d refusal.Workers = ⊥
 IsOfStore shared entries x d refusal.Threads = ⊥
 IsOfStore shared entries x d refusal.Stock = ⊥
 
--- x asked for the deed: its entry has both, and the answer is the entry's reply; or else the store refused
+-- x asked for the deed. Either its entry has both, and the answer is the entry's reply, or the store refused
 abbrev pub EntersOrRefuses : SharedStart → List Entry → ℕ → Deed → Option Entry → Answer → Type 0
 EntersOrRefuses shared entries x d (Some e) a = (e.worker ≡ x) × (e.deed ≡ d) × (a ≡ told.Reply e.reply)
 EntersOrRefuses shared entries x d None a = (r : Refusal) × IsOfStore shared entries x d r × (a ≡ told.Refused r)
@@ -111,12 +114,13 @@ abbrev pub TellsMade : SharedStart → List Entry → ℕ → (Value → Deed) �
 TellsMade shared entries x making (Some value) e a = EntersOrRefuses shared entries x (making value) e a
 TellsMade shared entries x making None e a = IsRefused refusal.Stock e a
 
--- this is told where the worker's lines are run, and else that there is no such worker
+-- this is reported if the worker's lines are run, and else that there is no such worker
 abbrev pub IsServed : Bool → Type 0 → Option Entry → Answer → Type 0
 IsServed true asked e a = asked
 IsServed false asked e a = IsRefused refusal.Worker e a
 
--- what a collection tells of the vertices that it left: of a full one the number, of a store with the first of these entries
+-- the number of vertices that a collection reports. A full collection reports how many it left of a store with the first of these
+-- entries. A nursery collection reports none
 abbrev pub IsCountTold : SharedStart → List Entry → Kind → Option ℕ → Type 0
 IsCountTold shared entries kind.Full kept = (n : ℕ) × LeavesAtFront shared entries kind.Full n × (kept ≡ Some n)
 IsCountTold shared entries kind.Nursery kept = kept ≡ None
@@ -131,7 +135,7 @@ abbrev pub TellsCollection : Arena → Kind → Option Entry → Answer → Type
 TellsCollection arena k e a =
     (e ≡ None) × (((kept : Option ℕ) × IsCountTold arena.shared arena.entries k kept × (a ≡ told.Collected kept)) ⊎ ((r : Refusal) × IsUncollected arena k r × (a ≡ told.Refused r)))
 
--- What is reported of a line, where the lines of these workers are run.
+-- The report on a line, if the lines of these workers are run.
 abbrev pub Tells : Arena → (ℕ → Bool) → Line → Option Value → Option Entry → Answer → Type 0
 Tells arena served (line.Edge edge) box e a = ⊥
 Tells arena served (line.Create x label) box e a = IsServed (served x) (TellsMade arena.shared arena.entries x (create_of label) box e a) e a
@@ -142,18 +146,19 @@ Tells arena served line.Minor box e a = TellsCollection arena kind.Nursery e a
 
 -- ---- what is written for all of them
 
--- these are the entries that the lines made, in script order, and this is the text, where the lines of these workers are run
+-- these are the entries that the lines made, in script order, and this is the text, if the lines of these workers are run
 abbrev pub AreTold : Arena → (ℕ → Bool) → List Boxed → List Entry → List ℕ → Type 0
 AreTold arena served [] made text = (made ≡ []) × (text ≡ [])
 AreTold arena served (b ∷ bs) made text =
     (e : Option Entry) × (a : Answer) × (more : List Entry) × (rest : List ℕ) × Tells arena served b.line b.value e a
     × (made ≡ option_to_list e ++ more) × (text ≡ answer_text a ++ rest) × AreTold arena (served_behind served b.line e) bs more rest
 
--- the history has exactly these entries, and those of each worker in this order; entries of different workers may be in any
+-- The history has exactly these entries, and the entries of each worker in this order. Entries of different workers may be in any
+-- order.
 abbrev pub HasEach : List Entry → List Entry → Type 0
 HasEach entries made = (x : ℕ) → filter (λ e. e.worker == x) entries ≡ filter (λ e. e.worker == x) made
 
--- what is written of a race, by its opening, its entries and the replies to its lines
+-- the text that is written of a race, by its opening, its entries and the replies to its lines
 abbrev pub RaceText : Type 0
 RaceText = Plan → List Entry → List ℕ → List ℕ
 
@@ -165,11 +170,12 @@ reply_race p entries replies = replies ++ end_text (length entries)
 abbrev pub entry_race : RaceText
 entry_race p entries replies = history_text p entries
 
--- The text may be written for these lines: their opening is accepted, and there is a legal history of it whose entries are those of the
--- command lines, one for each that has one and no other, each worker's in script order; and the replies tell in script order the reply
--- of each entry where its line stands, a refusal for each command line without an entry, and one line for each collection. The store
--- was one of that opening when it was shared. A refusal for room in the heap, and the number of a collection, are of a store that may
--- have been in the lock with the first of these entries. Of the replies the text is made.
+-- The text may be written for these lines. Their opening is accepted, and there is a legal history of it. Each command line has one
+-- entry of the history or none, and the history has no other entries. The entries of each worker are in script order. The replies
+-- are in script order too. A command line with an entry has the reply of its entry, and a command line without an entry has a
+-- refusal. A collection has one line. The store was a new store of that opening when it was shared. A refusal for room in the heap
+-- comes from a store that may have been in the lock with the first of these entries. So does the number of a collection. The text
+-- is made of the replies.
 pub record IsRaceOutput (race_text : RaceText) (start : Start) (lines : List Line) (text : List ℕ) : Type 0 where
   pub shared : SharedStart
   pub entries : List Entry
@@ -182,7 +188,7 @@ pub record IsRaceOutput (race_text : RaceText) (start : Start) (lines : List Lin
   pub each : HasEach entries made
   pub text_is : text ≡ race_text (plan_of start lines) entries replies
 
--- ---- where there is one worker
+-- ---- if there is one worker
 
 -- a command line of worker 0
 abbrev pub IsOfFirst : Line → Type 0
@@ -193,15 +199,15 @@ IsOfFirst (line.Plain x command) = x ≡ 0
 IsOfFirst line.Full = ⊥
 IsOfFirst line.Minor = ⊥
 
--- all lines are commands of worker 0, each has its entry, and none was answered that no more vertices may be made, or that no more
--- subjects may be active
+-- All lines are commands of worker 0, and each has its entry. No answer is that no more vertices may be made, or that no more
+-- subjects may be active.
 pub record IsOfOneThread (lines : List Line) (made : List Entry) : Type 0 where
   pub first : All IsOfFirst lines
   pub entered : length made ≡ length lines
   pub room : All (λ e. (e.reply ≢ reply.VerticesFull) × (e.reply ≢ reply.WorkersFull)) made
 
--- Where all lines are commands of worker 0, each has its entry, and there was room for each vertex and each subject, the replies are
--- the output of the plain run.
+-- Suppose that all lines are commands of worker 0, that each has its entry, and that there was room for each vertex and each
+-- subject. Then the replies are the output of the plain run.
 abbrev pub OneWorkerIsThePlainRun : Type 0
 OneWorkerIsThePlainRun =
     (start : Start) (arena : Arena) (lines : List Line) (entries made : List Entry) (replies : List ℕ) → IsLegal (scene_of start lines).graph entries →

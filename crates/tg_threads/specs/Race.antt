@@ -40,21 +40,21 @@ use Rattle.tg_threads.specs.Tasks.{AllBring, AreRaced, all_assigned}
 abbrev pub IsWhole : Start → List ℕ → List Line → List ℕ → Type 0
 IsWhole start bytes lines left = ReadsScript start.workers bytes lines None left × CanOpen start
 
--- why a store isn't opened: a limit is out of its range, or else memory ran out, or a block for each worker
+-- Why a store isn't opened. A limit is out of its range, or else memory ran out, or there are fewer blocks than workers.
 abbrev pub IsOpenFault : Start → ScriptFault → Type 0
 IsOpenFault start script.BadLimits = ¬ HasRoomForWorkers start
 IsOpenFault start script.OutOfMemory = HasRoomForWorkers start
 IsOpenFault start script.HeapFull = HasRoomForWorkers start × (start.blocks < start.workers)
 IsOpenFault start f = ⊥
 
--- the bytes are lines up to this fault, which was met in reading or keeping them; or they are a whole script, and this fault came
--- of opening its store
+-- Either the bytes are lines up to this fault, which occurred when they were read or kept. Or they are a whole script, and this
+-- fault occurred when its store was opened.
 abbrev pub IsNotRun : Start → List ℕ → ScriptFault → List ℕ → Type 0
 IsNotRun start bytes f left =
     (lines : List Line)
     × ((IsOfKeeping f × ReadsScript start.workers bytes lines (Some f) left) ⊎ (ReadsScript start.workers bytes lines None left × IsOpenFault start f))
 
--- a fault after the opening, before anything is written; the audit finds none
+-- A fault after the opening, before anything is written. The audit finds no fault.
 abbrev pub IsBeforeWriting : RaceFault → Type 0
 IsBeforeWriting (fault.Script f) = ⊥
 IsBeforeWriting fault.OutOfMemory = Unit {0}
@@ -63,20 +63,20 @@ IsBeforeWriting fault.ReceiptMismatch = Unit {0}
 IsBeforeWriting fault.AuditFailed = ⊥
 IsBeforeWriting fault.WriteFailed = ⊥
 
--- a fault that comes of telling what the lines came to; the audit finds none
+-- A fault that occurs while the results of the lines are written. The audit finds no fault.
 abbrev pub IsOfTelling : RaceFault → Type 0
 IsOfTelling fault.OutOfMemory = Unit {0}
 IsOfTelling fault.WriteFailed = Unit {0}
 IsOfTelling f = ⊥
 
--- What holds where a race ends with this fault, whatever its source and its sink tell of their bytes: for its limits it ends only
--- where they are at fault, and the audit finds none.
+-- This holds if a race ends with this fault, whatever is known of the bytes of its source and its sink. A race ends for its limits
+-- only if they are at fault, and the audit finds no fault.
 abbrev pub IsRaceDue : Start → RaceFault → Type 0
 IsRaceDue start (fault.Script f) = IsDue start f
 IsRaceDue start fault.AuditFailed = ⊥
 IsRaceDue start f = Unit {0}
 
--- a fault of the threads, and one of the audit, as one of a race
+-- a fault of the threads, and a fault of the audit, as a fault of a race
 abbrev pub of_threads : ThreadsFault → RaceFault
 of_threads threads.OutOfMemory = fault.OutOfMemory
 of_threads threads.NoThread = fault.NoThread
@@ -94,7 +94,7 @@ abbrev pub race_read_failures : {T : Type 0} → Result T RaceFault → ℕ
 race_read_failures (Err (fault.Script script.ReadFailed)) = 1
 race_read_failures r = 0
 
--- how many failures of the sink it is, where finishing it is left out
+-- how many failures of the sink an outcome of a race is, without the finish of the sink
 abbrev pub race_write_failures : {T : Type 0} → Result T RaceFault → ℕ
 race_write_failures (Err fault.WriteFailed) = 1
 race_write_failures (Err (fault.Script script.WriteFailed)) = 1
@@ -102,9 +102,9 @@ race_write_failures r = 0
 
 -- ---- the whole
 
--- What is in the sink after a race over these bytes, where `before` stood in it, and what is left of them: a text that may be
--- written for all of the script, or a front of one where the sink failed. For a script with a fault, for one whose store can't be
--- opened, and where anything else was lacking, nothing more. The audit never fails.
+-- The bytes in a sink after a race over these bytes, if it had `before`, and the bytes that are left unread. The sink gets a text
+-- that may be written for the whole script, or a front of that text if the sink failed. It gets nothing if the script has a fault,
+-- if its store can't be opened, or if anything else was lacking. The audit never fails.
 abbrev pub HasRaced : {T : Type 0} → RaceText → Start → List ℕ → List ℕ → Result T RaceFault → List ℕ → Option (List ℕ) → Type 0
 HasRaced race_text start bytes before (Ok done) left after =
     (lines : List Line) × (text : List ℕ) × IsWhole start bytes lines left × IsRaceOutput race_text start lines text × (after ≡ Some (before ++ text))
@@ -120,8 +120,8 @@ LeavesRaced left taken source source' sink sink' race_text start result =
     (bytes before : List ℕ) → left source ≡ Some bytes → taken sink ≡ Some before →
     (rest : List ℕ) × (left source' ≡ Some rest) × HasRaced race_text start bytes before result rest (taken sink')
 
--- A race from this start, by what its source and its sink tell: of the bytes that are left, how often it was asked and has failed, and
--- of the bytes that were taken.
+-- A race from this start, by what is known of its source and its sink. The source says which bytes are left, how often it was
+-- asked, and how often it has failed. The sink says which bytes it took.
 pub record RacesFrom {S K T : Type 0} (left : S → Option (List ℕ)) (asks failures : S → ℕ) (taken : K → Option (List ℕ))
     (source source' : S) (sink sink' : K) (race_text : RaceText) (start : Start) (result : Result T RaceFault) : Type 0 where
   pub output : LeavesRaced left taken source source' sink sink' race_text start result
@@ -131,7 +131,7 @@ pub record RacesFrom {S K T : Type 0} (left : S → Option (List ℕ)) (asks fai
 
 -- ---- parts of it
 
--- The sink was finished at the end of a race, and has failed where that is reported.
+-- The sink was finished at the end of a race, and has failed if that is reported.
 pub record FinishesRace {K T : Type 0} (failures : K → ℕ) (is_finished : K → Bool) (sink sink' : K) (result : Result T RaceFault) : Type 0 where
   pub write_failed : failures sink + race_write_failures result ≤ failures sink'
   pub unfailed : OnOk result (failures sink' ≡ failures sink)
@@ -144,20 +144,21 @@ pub record CountsRace {S K T : Type 0} (asks read_fails : S → ℕ) (write_fail
   pub read_failed : read_fails source' ≡ read_fails source + race_read_failures result
   pub write_failed : write_fails sink' ≡ write_fails sink + race_write_failures result
 
--- the same, where nothing is written
+-- a part of a race that writes nothing, with its counts
 pub record OpensSilently {S K T : Type 0} (asks read_fails : S → ℕ) (taken : K → Option (List ℕ)) (write_fails : K → ℕ)
     (source source' : S) (sink sink' : K) (result : Result T RaceFault) : Type 0 where
   pub keeps : KeepsBytes (taken sink) (taken sink')
   pub counts : CountsRace asks read_fails write_fails source source' sink sink' result
 
--- these lines may be raced in a store of this opening and these entries: it has a worker and no entry, and each of them is a command
+-- These lines may be raced in a store of this opening and these entries. The store has a worker and no entry, and each line is a
+-- command.
 pub record MayRace (opening : Origin) (entries : List Entry) (lines : List Line) : Type 0 where
   pub new : (1 ≤ opening.plan.workers) × (entries ≡ [])
   pub first : opening.shown ≡ None
   pub commands : All IsCommand lines
 
--- The lines were run in a store of this opening, within so many blocks, each collection with so many helpers, and it has them all in
--- its journal, of which nothing was handed out; or else a fault came before anything was written.
+-- The lines were run in a store of this opening, within so many blocks, each collection with so many helpers. The store has all of
+-- them in its journal, of which nothing was handed out. Or else a fault came before anything was written.
 pub record RunsRace {P : Type 0} (helpers blocks : ℕ) (opening : Origin) (stock : List Value) (lines : List Line)
     (result : Result (Raced P) RaceFault) : Type 0 where
   pub raced : IfOk result (λ raced. (shared : SharedStart) × IsNewStore opening blocks shared × (raced.store.opening ≡ opening)
@@ -165,28 +166,29 @@ pub record RunsRace {P : Type 0} (helpers blocks : ℕ) (opening : Origin) (stoc
       × (raced.store.handed ≡ 0))
   pub fault : IfErr result IsBeforeWriting
 
--- Each worker's session ran its lines, with this stock; what they came to is in script order, and all of the sessions come back.
+-- Each worker's session ran its lines, with this stock. The results are in script order, and all sessions come back.
 pub record HasRanLines (start : SharedStart) (helpers : ℕ) (stock : List Value) (lines : List Line) (ran : RanLines SessionState) : Type 0 where
   pub finished : List (Finished SessionState)
   pub each : AllBring start helpers start.opening.plan.workers (all_assigned start.opening.plan.workers (boxed stock lines)) finished
   pub order : IsInScriptOrder start.opening.plan.workers lines (map (λ f. f.told.items) finished) ran.told.items
   pub sessions : ran.sessions.items ≡ all_sessions finished
 
--- the sessions of a store that is shared for a race, in which no worker is ended: it had no entry, and nothing of it was handed out
+-- The sessions of a store that is shared for a race, in which no worker is ended. The store had no entry, and nothing of it was
+-- handed out.
 pub record MayCloseRace (start : SharedStart) (sessions : List SessionState) : Type 0 where
   pub new : start.entries ≡ []
   pub none_ended : start.may_end ≡ false
   pub none_handed : handed_of sessions ≡ 0
 
--- Why it isn't closed: a session is missing, or the receipts aren't the entries of a store that may have been in the lock.
+-- Why the race isn't closed. A session is missing, or the receipts aren't the entries of a store that may have been in the lock.
 abbrev pub IsUnclosedRace : SharedStart → List SessionState → RaceFault → Type 0
 IsUnclosedRace start sessions why =
     (why ≡ fault.ReceiptMismatch)
     × ((AtSome start (λ s. parts_of sessions < sessions_made start s.entries))
     ⊎ AtSome start (λ s. (length start.entries + count_of sessions ≤ length s.entries) × (¬ MayClose s.entries (held_from start s) sessions)))
 
--- The store that comes back with these sessions: each entry is one of their receipts, its entries begin with those that each has seen,
--- and nothing was handed out.
+-- The store that comes back with these sessions. Each entry is in one of their receipts, and the entries begin with the entries
+-- that each session has seen. Nothing was handed out.
 pub record IsClosedRace (start : SharedStart) (sessions : List SessionState) (store : StoreState) : Type 0 where
   pub opening : store.opening ≡ start.opening
   pub matching : MayClose store.entries 0 sessions
@@ -205,7 +207,7 @@ OpensRace start bytes (Err f) left = ⊥
 abbrev pub HasHistory : StoreState → Type 0
 HasHistory s = IsPlan s.opening.plan × IsLegal (start_at s.opening) s.entries
 
--- The store's journal is such a history, and this text was written after what stood there, or a front of it; or nothing.
+-- The store's journal is a legal history of its opening, and the sink got this text or a front of it. Or the sink got nothing.
 abbrev pub TellsRace : {T : Type 0} → StoreState → List ℕ → List ℕ → Result T RaceFault → Option (List ℕ) → Type 0
 TellsRace s text before (Ok done) after = HasHistory s × (after ≡ Some (before ++ text))
 TellsRace s text before (Err fault.WriteFailed) after =
@@ -214,13 +216,14 @@ TellsRace s text before (Err (fault.Script f)) after = ⊥
 TellsRace s text before (Err fault.AuditFailed) after = ⊥
 TellsRace s text before (Err f) after = after ≡ Some before
 
--- The sink was finished: what was taken is the same still. A fault stands; where there was none and it failed, that is the fault.
+-- The sink was finished, and its bytes are still the same. A fault that came before is kept. If there was no fault and the finish
+-- failed, the failed finish is the fault.
 abbrev pub EndsRace : {T : Type 0} → Option (List ℕ) → ℕ → Result T RaceFault → Result T RaceFault → Option (List ℕ) → ℕ → Type 0
 EndsRace before failures outcome result after failures' =
     KeepsBytes before after × (((result ≡ outcome) × (failures ≤ failures') × (IsOk outcome → failures' ≡ failures))
     ⊎ (IsOk outcome × (result ≡ Err fault.WriteFailed) × (failures' ≡ failures + 1)))
 
--- and it tells so
+-- the sink was finished, and reports that
 pub record HasFinished {K T : Type 0} (taken : K → Option (List ℕ)) (failures : K → ℕ) (is_finished : K → Bool) (sink sink' : K) (outcome result : Result T RaceFault) : Type 0 where
   pub ends : EndsRace (taken sink) (failures sink) outcome result (taken sink') (failures sink')
   pub finished : is_finished sink' ≡ true

@@ -13,7 +13,8 @@ use Rattle.tg_threads.specs.Boxes.{Boxed, boxed_of}
 
 -- ---- who runs a line
 
--- the worker whose session runs the line: its own, or worker 0 for a collection; and nobody's for one that names no worker
+-- The worker whose session runs the line. It is the worker that the line names, or worker 0 for a collection. Nobody's session runs
+-- a line that names no worker.
 abbrev pub runner_of : ℕ → Line → Option ℕ
 runner_of workers (line.Edge edge) = None
 runner_of workers (line.Create x label) = if nat_lt x workers then Some x else None
@@ -32,7 +33,7 @@ is_run_by workers x l = option_map_or (λ y. y == x) (runner_of workers l) false
 abbrev pub share_of : ℕ → ℕ → List Boxed → List Boxed
 share_of workers x bs = filter (λ b. is_run_by workers x b.line) bs
 
--- those of each worker, by number
+-- the lines of each worker's session, by the number of the worker
 abbrev pub all_shares : ℕ → List Boxed → List (List Boxed)
 all_shares workers bs = map (λ x. share_of workers x bs) (range_with_len 0 workers)
 
@@ -42,7 +43,7 @@ lines_in w = map boxed_of w.tasks.items
 
 -- ---- the sessions that come back
 
--- a worker's session, and those of the subjects that its lines made
+-- a worker's session, and the sessions of the subjects that its lines made
 abbrev pub sessions_in : {S : Type 0} → Finished S → List S
 sessions_in f = f.session ∷ f.spawned.items
 
@@ -50,19 +51,20 @@ sessions_in f = f.session ∷ f.spawned.items
 abbrev pub all_sessions : {S : Type 0} → List (Finished S) → List S
 all_sessions finished = flat_map sessions_in finished
 
--- ---- what they came to, in script order
+-- ---- the results of the lines, in script order
 
--- what the lines came to that worker x's session ran, in script order
+-- the results of the lines that worker x's session ran, in script order
 abbrev pub told_of : ℕ → ℕ → List Line → List Told → List Told
 told_of workers x lines ts = map (λ p. p.1) (filter (λ p. is_run_by workers x p.0) (zip lines ts))
 
--- What the lines came to: one for each, those that a worker's session ran as it brought them back, in its order; and
--- refused where no session runs the line.
+-- The results of the lines, one for each. The results of a worker's session are as the session brought them back, in its order. A
+-- line that no session runs is refused.
 pub record IsInScriptOrder (workers : ℕ) (lines : List Line) (brought : List (List Told)) (ts : List Told) : Type 0 where
   pub own : brought ≡ map (λ x. told_of workers x lines ts) (range_with_len 0 workers)
   pub nobodys : AllZip (λ l t. runner_of workers l ≡ None → t ≡ came.Refused refusal.Worker) lines ts
 
--- What the line came to is the next of what the session brought that ran it, of which so many were seen before, and then one more.
+-- The result of the line is the next result that the session brought back which ran the line. So many of its results were seen
+-- before, and then one more.
 abbrev pub TakesNext : ℕ → Line → List (List Told) → List ℕ → List ℕ → Told → Type 0
 TakesNext workers l all seen seen' t =
     (x : ℕ) (brought : List Told) → runner_of workers l ≡ Some x → slice_get all x ≡ Some brought →

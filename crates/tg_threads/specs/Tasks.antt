@@ -1,4 +1,4 @@
--- What a worker's lines come to on its thread, and how the parts of a race stand to what is reported of it.
+-- The results of a worker's lines on its thread, and how the parts of a race agree with the report on it.
 use Rattle.std.specs.Prelude.{◌≡◌, ◌≢◌, ℕ, ◌+◌, ◌<◌, ◌≤◌, Bool, true, false, if◌then◌else◌, List, [], ◌∷◌, ◌++◌, length, map, Option, Some, None, Result, IfOk, IfErr}
 use Rattle.std.specs.List.{All, flat_map, range_with_len}
 use Rattle.std.specs.Vec.{vec_capacity, vec_len}
@@ -34,9 +34,9 @@ use Rattle.tg_threads.specs.Shares.{runner_of, share_of, lines_in}
 use Rattle.tg_threads.specs.Telling.{IsThere, text_of_told}
 use Rattle.tg_threads.specs.Output.{Arena, Tells, IsCountTold, IsOfStore, IsUncollected, AreTold, HasEach, arena_of, has_thread, is_retire_of}
 
--- ---- what a line comes to
+-- ---- the result of a line
 
--- whose lines are run after this one, which came to this
+-- the workers whose lines are run after this line, which had this result
 abbrev pub served_past : (ℕ → Bool) → Line → Told → ℕ → Bool
 served_past served l (came.Entered at) = λ x. if is_retire_of x l then false else served x
 served_past served l (came.Collected kept) = served
@@ -59,20 +59,21 @@ is_spawn_line l = false
 abbrev pub may_make_subject : {P : Type 0} → Task P → Bool
 may_make_subject t = is_spawn_line t.line
 
--- the receipt that its session got of it, and what is reported of it then
+-- the receipt that the session got for the line, with the report on the line
 abbrev pub RunsOne : Arena → (ℕ → Bool) → Boxed → Told → List Receipt → Type 0
 RunsOne arena served b (came.Entered at) more = (e : Entry) × (more ≡ receipt_of at e ∷ []) × Tells arena served b.line b.value (Some e) (answer.Reply e.reply)
 RunsOne arena served b (came.Collected kept) more = (more ≡ []) × Tells arena served b.line b.value None (answer.Collected kept)
 RunsOne arena served b (came.Refused r) more = (more ≡ []) × Tells arena served b.line b.value None (answer.Refused r)
 
--- A session asked for the deed: exactly one receipt more, with it and the reply; or a refusal of the store, which had the entries that
--- the session has then seen. What the session has seen begins with what it had seen.
+-- A session asked for the deed. Either it has exactly one receipt more, with the deed and the reply. Or the store refused, which
+-- had the entries that the session has then seen. The entries that the session has seen begin with the entries that it had seen
+-- before.
 abbrev pub HasAsked : SharedStart → Deed → Told → SessionState → SessionState → Type 0
 HasAsked shared d (came.Entered at) old new = (reply : Reply) × AddsReceipt old new at d reply × BeginsWith new.seen old.seen
 HasAsked shared d (came.Collected kept) old new = ⊥
 HasAsked shared d (came.Refused r) old new = IsOfStore shared (entries_of new.seen) old.worker d r × HasLooked old new
 
--- a session asked for a vertex, an object or a subject, with this box; without one it asked for nothing
+-- A session asked for a vertex, an object or a subject, with this box. Without a box it asked for nothing.
 abbrev pub HasMadeVertex : SharedStart → (Value → Deed) → Option Value → Told → SessionState → SessionState → Type 0
 HasMadeVertex shared making (Some value) t old new = HasAsked shared (making value) t old new
 HasMadeVertex shared making None t old new = (t ≡ came.Refused refusal.Stock) × KeepsReceipts old new
@@ -83,11 +84,12 @@ HasCollected arena k (came.Entered at) = ⊥
 HasCollected arena k (came.Collected kept) = IsCountTold arena.shared arena.entries k kept
 HasCollected arena k (came.Refused r) = IsUncollected arena k r
 
--- A session ran the line, where the lines of these workers are run. What it has seen begins with what it had seen.
+-- A session ran the line, if the lines of these workers are run. The entries that it has seen begin with the entries that it had
+-- seen before.
 abbrev pub HasRun : Arena → (ℕ → Bool) → Boxed → Told → SessionState → SessionState → Type 0
 HasRun arena served b t old new = (more : List Receipt) × (new.worker ≡ old.worker) × (new.receipts ≡ old.receipts ++ more) × (new.handed ≡ old.handed) × RunsOne arena served b t more × BeginsWith new.seen old.seen
 
--- these lines were run one after the other, came to this, and these are the receipts
+-- these lines were run one after the other, with these results and these receipts
 abbrev pub Runs : Arena → (ℕ → Bool) → List Boxed → List Told → List Receipt → Type 0
 Runs arena served [] ts rs = (ts ≡ []) × (rs ≡ [])
 Runs arena served (b ∷ bs) ts rs =
@@ -97,14 +99,15 @@ Runs arena served (b ∷ bs) ts rs =
 abbrev pub IsRunBy : ℕ → ℕ → Boxed → Type 0
 IsRunBy workers x b = runner_of workers b.line ≡ Some x
 
--- However many workers there are and whose lines are run: if the session's worker runs the task's line, the session ran it.
+-- If the session's worker runs the task's line, the session ran it. This holds however many workers there are, and whichever
+-- workers' lines are run.
 abbrev pub RunsTask : {P : Type 0} → SharedStart → ℕ → Bool → Task P → SessionState → SessionState → Result Told ThreadsFault → Type 0
 RunsTask start helpers served task old new result =
     (workers : ℕ) (before : ℕ → Bool) → before old.worker ≡ served → IsRunBy workers old.worker (boxed_of task) →
     IfOk result (λ told. HasRun (arena_of start helpers (entries_of new.seen)) before (boxed_of task) told old new)
 
--- What is reported of a line of a session's worker is this; or else there is a fault, and the worker is no subject of a store that may
--- have been in the lock with exactly the entries that the session has then seen.
+-- Either this is the report on a line of a session's worker. Or there is a fault, and the worker is no subject of a store that may
+-- have been in the lock. That store has exactly the entries that the session has then seen.
 pub record IsToldOrGone (start : SharedStart) (old new : SessionState) (IsTold : Told → Type 0) (result : Result Told ThreadsFault) : Type 0 where
   pub asked : IfOk result IsTold
   pub gone : IfErr result (λ why. (why ≡ threads.NoSuchWorker) × AtSeen start new.seen (λ s. ¬ IsSubject (graph_of_store s) old.worker))
@@ -122,24 +125,25 @@ subject_spawned d r = []
 abbrev pub subjects_spawned : List Receipt → List ℕ
 subjects_spawned receipts = flat_map (λ r. subject_spawned r.entry.deed r.entry.reply) receipts
 
--- Where there is a fresh session for each subject that a worker's session made, by its receipts, and no other, so there is after a
--- line that came to something: none of them is lost. They went into the room that there was, and so many at most.
+-- Suppose that there is a fresh session for each subject that a worker's session made, by its receipts, and no other session. Then
+-- this still holds after a line that has a result, so no session is lost. The new sessions went into the room that there was, and
+-- are at most so many.
 pub record KeepsSpawned {A E : Type 0} (most : ℕ) (before after : SessionState) (sessions sessions' : Vec SessionState A) (result : Result Told E) : Type 0 where
   pub each : IfOk result (λ told. AreFresh (subjects_spawned before.receipts) sessions.items → AreFresh (subjects_spawned after.receipts) sessions'.items)
   pub kept : vec_capacity sessions' ≡ vec_capacity sessions
   pub fits : vec_len sessions' ≤ vec_len sessions + most
 
--- The session of one of so many workers ran its lines, all that its thread was given, and they came to this; there is a session for
--- each subject that they made, which ran none, and none of them handed out a receipt.
+-- The session of one of so many workers ran all lines that its thread was given, with these results. There is a session for each
+-- subject that the lines made, which ran no line. None of the sessions handed out a receipt.
 abbrev pub Brings : Arena → ℕ → ℕ → List Boxed → Finished SessionState → Type 0
 Brings arena workers x bs f =
     x < workers → All (IsRunBy workers x) bs → (f.session.worker ≡ x) × Runs arena (has_thread workers) bs f.told.items f.session.receipts × AreFresh (subjects_spawned f.session.receipts) f.spawned.items × (f.session.handed ≡ 0)
 
--- the arena as a session has it that came back: with the entries that it has seen
+-- the arena of a session that came back, which has the entries that the session has seen
 abbrev pub arena_seen : SharedStart → ℕ → Finished SessionState → Arena
 arena_seen shared helpers f = arena_of shared helpers (entries_of f.session.seen)
 
--- it ran these lines, or else there is a fault, but for lack of a thread there is none
+-- The session ran these lines, or else there is a fault, which isn't the lack of a thread.
 pub record RunsTasks (shared : SharedStart) (helpers workers x : ℕ) (bs : List Boxed) (result : Result (Finished SessionState) ThreadsFault) : Type 0 where
   pub brought : IfOk result (λ finished. Brings (arena_seen shared helpers finished) workers x bs finished)
   pub fault : IfErr result (λ fault. fault ≢ threads.NoThread)
@@ -148,7 +152,7 @@ pub record RunsTasks (shared : SharedStart) (helpers workers x : ℕ) (bs : List
 abbrev pub assigned_of : {P : Type 0} → Work SessionState P → ℕ × List Boxed
 assigned_of w = (w.session.worker, lines_in w)
 
--- each worker, by number, and the lines that its thread is given: all that it runs
+-- each worker, by number, and the lines that its thread is given, which are all lines that it runs
 abbrev pub all_assigned : ℕ → List Boxed → List (ℕ × List Boxed)
 all_assigned workers bs = map (λ x. (x, share_of workers x bs)) (range_with_len 0 workers)
 
@@ -163,17 +167,17 @@ AllBring shared helpers workers (a ∷ given) all =
     (f : Finished SessionState) × (more : List (Finished SessionState)) × (all ≡ f ∷ more) × Brings (arena_seen shared helpers f) workers a.0 a.1 f
     × AllBring shared helpers workers given more
 
--- ---- what it is with the journal at hand
+-- ---- the results with the entries of the journal
 
--- The lines came to this, with these entries in the journal: each entry is where it is
--- told to be, the lines made these of them in script order, and the journal has no others.
+-- The lines had these results, with these entries in the journal. Each entry is at the place that its result says. The lines made
+-- these entries in script order, and the journal has no others.
 pub record AreRaced (arena : Arena) (workers : ℕ) (bs : List Boxed) (entries : List Entry) (ts : List Told) : Type 0 where
   pub made : List Entry
   pub told : AreTold arena (has_thread workers) bs made (text_of_told entries ts)
   pub each : HasEach entries made
   pub there : All (IsThere entries) ts
 
--- the journal is whole and was audited, and what the lines came to is reported of entries that it has
+-- the journal is whole and was audited, and each place in the results is the place of one of its entries
 pub record MayTell (start : ℕ) (entries : List Entry) (ts : List Told) (audited : ℕ) : Type 0 where
   pub whole : start ≡ 0
   pub there : All (IsThere entries) ts

@@ -1,4 +1,4 @@
--- What is written of what the lines came to, with the journal at hand.
+-- The text that is written of the results of the lines, with the entries of the journal.
 use Rattle.std.specs.Prelude.{ℕ, ◌<◌, List, [], ◌∷◌, ◌++◌, length, Option, Some, None, slice_get, codes, decimal}
 use Rattle.std.specs.List.{flat_map}
 use Rattle.tg_journal.specs.declared.entry.Entry.{Entry}
@@ -18,7 +18,7 @@ told_answer entries (came.Entered at) = entry_answer (slice_get entries at)
 told_answer entries (came.Collected kept) = answer.Collected kept
 told_answer entries (came.Refused r) = answer.Refused r
 
--- an entry is where it is told to be
+-- the place of an entry in a result is the place of an entry of the journal
 abbrev pub IsThere : List Entry → Told → Type 0
 IsThere entries (came.Entered at) = at < length entries
 IsThere entries (came.Collected kept) = Unit {0}

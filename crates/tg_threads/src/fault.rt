@@ -8,7 +8,7 @@ use tg_store::StoreAuditFault;
 use tg_text::{ScriptFault, WriteFailed};
 use thiserror::Error;
 
-/// Why a race ended without its whole output. Nothing was written, but where writing failed.
+/// Why a race ended without its whole output. Nothing was written, unless writing failed.
 #[derive(Clone, Copy, PartialEq, Eq, Debug, Error)]
 pub enum RaceFault {
     /// A fault in the script, or its store couldn't be opened. No line was run.
@@ -20,8 +20,8 @@ pub enum RaceFault {
     /// A worker's thread couldn't be started.
     #[error("no thread")]
     NoThread,
-    /// The sessions' receipts aren't the journal's growth. Or a session found no such worker, although no retire of its
-    /// worker was entered.
+    /// The sessions' receipts aren't the journal's growth. Or a session reported that its worker isn't there, although
+    /// no retire of the worker was entered.
     #[error("receipt mismatch")]
     ReceiptMismatch,
     /// The journal isn't a legal history of the script's opening.

@@ -11,8 +11,8 @@
 //!
 //! `specs/Output` says what may be written for a whole script, as a relation between its lines and a legal history. The
 //! order between workers is open, because it is the order in which they took the lock. The law of one worker says that
-//! its replies are those of a plain run. `specs/Race` says what is then in the sink, also after a fault. Only this
-//! crate uses `specs/Tasks`, which defines a session's run of its lines.
+//! its replies are the replies of a plain run. `specs/Race` says what is then in the sink, also after a fault. Only
+//! this crate uses `specs/Tasks`, which defines a session's run of its lines.
 #![tactic(auto)]
 
 mod fault;

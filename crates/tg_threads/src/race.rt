@@ -32,8 +32,8 @@ use tg_text::{Line, Sink, Source};
 /// The whole script is read first. If it has a fault, no line is run. Then each worker has a thread with its session.
 /// The thread runs the worker's lines in script order, and passes the turnstile before each. Worker 0 makes the
 /// collections, each by as many helpers as the settings have. After a worker's own retire was entered, its lines are
-/// answered that there is no such worker. So is each line of anybody who is no worker of the opening. A subject that a
-/// spawn line made is one of them, because its session runs no line.
+/// answered that there is no such worker. Each line of anybody who is no worker of the opening has the same answer. A
+/// subject that a spawn line made has it too, because its session runs no line.
 ///
 /// Once all threads have ended the store is closed and audited. Only then anything is written, in the way `T`.
 /// [`Replies`](crate::Replies) writes the reply to each line in script order, and the line with the number of entries.
@@ -41,13 +41,12 @@ use tg_text::{Line, Sink, Source};
 ///
 /// The order in which lines of different workers are run isn't specified. Suppose that a line is refused for lack of
 /// room in the heap. Then some store in the lock, with the first of the race's own entries, lacked that room. The
-/// number that a full collection returns is of such a store too.
+/// number that a full collection returns is the number of vertices of a store of the same kind.
 ///
 /// After a fault nothing was written, unless it is `WriteFailed`, which leaves a front of the text. `NoThread` is
 /// returned if a thread can't be started. The threads that were started have ended by then. `ReceiptMismatch` is also
 /// returned if a session finds no such worker, and no retire of its worker was entered. The source is asked for at most
-/// 1,048,577 bytes. The sink is finished at the end, after a fault too. A fault that came before is the one that is
-/// returned.
+/// 1,048,577 bytes. The sink is finished at the end, after a fault too. If a fault came before, it is returned.
 pub fn run_race<
     P: Payload + Send,
     T: RaceTelling,

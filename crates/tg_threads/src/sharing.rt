@@ -13,8 +13,8 @@ use tg_payload::{Draft, Payload};
 use tg_text::Line;
 
 /// Gives each session the lines that it has to run, in script order. Each create line and each spawn line gets its
-/// payload of the stock, by its place among these lines. The sessions are those of all workers, by number. The payload
-/// of a line that names no worker is dropped. Fails only if memory runs out, and then drops all that was handed in.
+/// payload of the stock, by its place among these lines. There is a session for each worker, by number. The payload of
+/// a line that names no worker is dropped. Fails only if memory runs out, and then drops all that was handed in.
 pub fn share_out<S: Drop, P: Payload>(
     alloc: Global,
     sessions: Vec<S>,

@@ -1,4 +1,4 @@
-//! What the lines of a script ask of the sessions, and what they come to.
+//! The tasks that the lines of a script give to the sessions, and their results.
 ghost use Rattle.std.specs.Prelude.{◌≡◌};
 ghost use Rattle.tg_threads.specs.Shares.{runner_of};
 
@@ -10,11 +10,11 @@ use tg_text::{Line, Refusal};
 pub struct Task<P: Payload> {
     /// A line of the session's worker that is no edge line. Or a collection, if the session is worker 0's.
     pub line: Line,
-    /// For the vertex, where the line makes one and there is a payload for it.
+    /// The payload for the vertex, if the line makes a vertex and there is a payload for it.
     pub draft: Option<Draft<P>>,
 }
 
-/// What a line came to.
+/// The result of a line.
 #[derive(Clone, Copy, PartialEq, Eq, Debug)]
 pub enum Told {
     /// The entry at this place of the journal.

@@ -1,4 +1,4 @@
-//! What is written of a race in the end. It is the replies to its lines, or its entries.
+//! The text that is written of a race in the end. It has the replies to its lines, or its entries.
 ghost use Rattle.std.specs.Prelude.{◌≡◌, ◌++◌};
 ghost use Rattle.std.specs.List.{All};
 ghost use Rattle.tg_text.specs.Sinks.{Writes};
@@ -14,7 +14,7 @@ use tg_journal::Journal;
 use tg_model::Opening;
 use tg_text::{Answer, Sink, WriteFailed, put_texts, write_reply, write_reply_of};
 
-/// What is written of a race in the end.
+/// The kind of text that is written of a race in the end.
 pub trait RaceTelling {
     ghost use Rattle.tg_text.specs.Sinks.{Writes};
     ghost use Rattle.tg_threads.specs.Output.{RaceText};

@@ -24,10 +24,10 @@ pub type Work<L, P> = crate::work::Work<Session<L>, P>;
 /// Why not all of the workers' lines were run. The sessions are lost.
 #[derive(Clone, Copy, PartialEq, Eq, Debug, Error)]
 pub enum ThreadsFault {
-    /// There was no memory for what a worker's lines come to. None of that worker's lines was run.
+    /// There was no memory for the results of a worker's lines. None of that worker's lines was run.
     #[error("out of memory")]
     OutOfMemory,
-    /// A worker's thread couldn't be started. Those that were started have ended.
+    /// A worker's thread couldn't be started. The threads that were started have ended.
     #[error("no thread")]
     NoThread,
     /// A session answered that its worker is no subject, though no retire of the worker was entered.
@@ -58,7 +58,7 @@ impl<T: Drop> From<AllocFailed<T>> for ThreadsFault {
     }
 }
 
-/// What a worker's thread has to bring back. It is its session, which has run these lines, with so many helpers of a
+/// The promise of a worker's thread. It brings back its session, which has run these lines, with so many helpers of a
 /// collection.
 #[derive(Drop)]
 pub(crate) struct Assigned<P: Payload> {
@@ -77,9 +77,9 @@ impl<L: Round, P: Payload> Promise<Result<Finished<L>, ThreadsFault>> for Assign
 }
 
 /// Gives each worker a thread that runs its lines, and waits for all of them. The results are in the order of the
-/// workers. Each session has run its lines one after the other. Each line has come to a receipt, to a refusal or to a
-/// collection, which has so many helpers. If a thread can't be started, those that were started run to their end. The
-/// sessions never had a receipt before.
+/// workers. Each session has run its lines one after the other. The result of each line is a receipt, a refusal or a
+/// collection, which has so many helpers. If a thread can't be started, the threads that were started run to their end.
+/// The sessions never had a receipt before.
 pub fn run_threads<
     L: Round + Send + Sync,
     P: Payload + Send,

@@ -1,7 +1,7 @@
-//! Where a worker's thread may be held up.
+//! The place at which a worker's thread may be held up.
 
-/// What each worker's thread passes before each of its lines. A turnstile that lets nobody pass before another worker
-/// has come shows that workers have threads of their own.
+/// A gate that each worker's thread passes before each of its lines. A turnstile that lets nobody pass before another
+/// worker has come shows that workers have threads of their own.
 pub trait Turnstile {
     /// Lets the worker's thread pass.
     fn pass(&self, worker: u64);

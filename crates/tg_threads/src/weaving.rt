@@ -1,4 +1,4 @@
-//! What the lines of a script came to, put together in its order.
+//! The results of the lines of a script, put together in its order.
 ghost use Rattle.std.specs.Prelude.{◌≡◌, ◌<◌, ℕ, None, Some, IfOk, length, map, slice_index};
 ghost use Rattle.std.specs.List.{filter, range_with_len};
 ghost use Rattle.tg_threads.specs.Shares.{IsInScriptOrder, TakesNext, all_sessions, is_run_by, runner_of};
@@ -8,9 +8,9 @@ use crate::work::Finished;
 use std::alloc::{AllocError, Global};
 use tg_text::{Line, Refusal};
 
-/// What each line of the script came to, in its order, from what each worker's session brought back, by the number of
-/// the worker. A line that no session runs is refused, as it names no worker. Each brings as many as it was given
-/// lines. Fails only when out of memory.
+/// The result of each line of the script, in its order. The results come from the sessions, which are listed by the
+/// number of their worker. Each session brings one result for each line that it was given. A line that no session runs
+/// is refused, because it names no worker. Fails only when out of memory.
 pub fn in_script_order<S: Drop>(
     alloc: Global,
     lines: &[Line],
@@ -47,8 +47,8 @@ fn next_told<S: Drop>(finished: &[Finished<S>], seen: &mut Vec<usize>, line: &Li
     told
 }
 
-/// The sessions of the workers, whose lines were run, each with those of the subjects that its lines made. Fails only
-/// when out of memory, and the sessions are then lost.
+/// The sessions of the workers, whose lines were run. After each session come the sessions of the subjects that its
+/// lines made. Fails only when out of memory, and the sessions are then lost.
 pub fn sessions_of<S: Drop>(alloc: Global, finished: Vec<Finished<S>>) -> Result<Vec<S>, AllocError>
     ensures { IfOk result (λ sessions. sessions.items ≡ all_sessions finished.items) }
 {

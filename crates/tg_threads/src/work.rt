@@ -1,4 +1,4 @@
-//! A session with the lines that it has to run, and with what they came to.
+//! A session with the lines that it has to run, and with their results.
 
 use crate::task::{Task, Told};
 use tg_payload::Payload;
@@ -10,11 +10,11 @@ pub struct Work<S, P: Payload> {
     pub tasks: Vec<Task<P>>,
 }
 
-/// A worker's session after its lines, and what each of them came to, in their order.
+/// A worker's session after its lines, and the result of each line, in their order.
 #[derive(Drop)]
 pub struct Finished<S> {
     pub session: S,
-    /// The sessions of the subjects that the lines made. Nobody runs lines of these.
+    /// The sessions of the subjects that the lines made. Nobody runs the lines of these subjects.
     pub spawned: Vec<S>,
     pub told: Vec<Told>,
 }

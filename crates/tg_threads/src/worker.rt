@@ -32,7 +32,7 @@ use tg_shared::{Gate, NoGate, Round, Session, SharedStore};
 use tg_store::{ApplyFault, CreateFault, Kind};
 use tg_text::{Answer, Line, Refusal};
 
-/// A worker's session after its lines, and what each of them came to, in their order.
+/// A worker's session after its lines, and the result of each line, in their order.
 pub type Finished<L> = crate::work::Finished<Session<L>>;
 
 /// Runs the lines, one after the other, and passes the turnstile before each. A collection has so many helpers. After

@@ -1,4 +1,4 @@
--- What an audit of a kept file finds out.
+-- The outcome of an audit of a kept file.
 use Rattle.std.specs.Prelude.{◌≡◌, ℕ, ◌+◌, ◌<◌, List, ◌∷◌, [], ◌++◌, length, take, drop, sum_by}
 use Rattle.std.specs.List.{flat_map}
 use Rattle.tg_entries.specs.Texts.{end_text, version_text}
@@ -11,7 +11,8 @@ use Rattle.tgaudit.specs.declared.kept.KeptFault.TheVariants as fault
 abbrev pub ended_line : List ℕ → List ℕ
 ended_line text = text ++ 10 ∷ []
 
--- What a kept file says, the marks among it, as the text of a history: another first line, and then the texts of all other lines.
+-- The lines of a kept file, with its marks, as the text of a history. It has another first line, and then the texts of all other
+-- lines.
 abbrev pub text_before_end : List ℕ → List ℕ
 text_before_end file = version_text ++ flat_map ended_line (drop 1 (file_texts file))
 

@@ -16,7 +16,8 @@ use tg_keep::{FileFault, FileReport, LineReader, report_of};
 use tg_text::Count;
 use thiserror::Error;
 
-/// A kept file whose lines are a legal history: how many entries they have, and the report on its bytes.
+/// The report on a kept file whose lines are a legal history. It has the number of entries, and the report on the
+/// bytes.
 #[derive(Clone, Copy, Drop)]
 pub(crate) struct KeptAudit<'a> {
     pub(crate) entries: usize,
@@ -36,7 +37,7 @@ pub(crate) enum KeptFault {
         line: usize,
         /// Where the line begins, counted from 0.
         byte: usize,
-        /// What is wrong with it.
+        /// The fault of the line.
         why: LineFault,
     },
     /// The lines end within the opening, or before it.

@@ -1,11 +1,11 @@
-//! What is shown of bytes that are no whole line.
+//! The parts of a file that are shown if it ends without a whole line.
 
 use std::str;
 
 // How many bytes of a first line are shown.
 const SHOWN: usize = 40;
 
-/// What comes after so many bytes of a file, or nothing if it has no more of them.
+/// The bytes of a file after its first so many, or no bytes if it has no more.
 pub(crate) fn bytes_after(file: &[u8], at: usize) -> &[u8] {
     &file[at.min(file.len())..]
 }

@@ -4,9 +4,9 @@
 //! how many there are. Else it prints the first line at fault. `tg_entries` reads the text, replays it and sums it.
 //! This crate has the command line and the answers.
 //!
-//! With the names of kept files it reads these, each by itself. `tg_keep` says what the lines of a kept file are.
+//! With the names of kept files it reads these files, each by itself. `tg_keep` says what the lines of a kept file are.
 //! `kept` audits the bytes of a kept file, and has the theorem of this crate. `files` reads a file by its name, and
-//! prints what was found.
+//! prints the outcome.
 #![tactic(auto)]
 
 mod files;

@@ -1,4 +1,4 @@
--- What a policy rests on: the texts of the command line, the questions that they are, and the exit status.
+-- The parts of a policy. They are the texts of the command line, the questions that the texts write, and the exit status.
 use Rattle.std.specs.Prelude.{◌≡◌, ℕ, Bool, IsTrue, not, ◌&&◌, if◌then◌else◌, List, [], ◌∷◌, ◌++◌, codes, Option, Some, None}
 use Rattle.std.specs.Str.Parse.{without_leading_plus, digits_value, IsNumeral}
 use Rattle.clap.specs.Matches.{found_of, matched_of, raw_values}
@@ -14,7 +14,7 @@ use Rattle.tgcould.specs.Told.{NeverComes}
 
 -- ---- the command line
 
--- the values of an option, or none where it isn't there
+-- the values of an option, or none if it isn't there
 abbrev pub values_of : Option MatchedArg → List (List ℕ)
 values_of None = []
 values_of (Some matched) = raw_values matched
@@ -47,7 +47,7 @@ pub record IsBehind (holder rest : List ℕ) (question : Query) : Type 0 where
   pub split : rest ≡ right ++ 32 ∷ over
   pub words : AreWords holder right over question
 
--- the text is the question: three words with a space between two
+-- the text writes the question, as three words with a space between two
 pub record IsQuestion (text : List ℕ) (question : Query) : Type 0 where
   pub holder : List ℕ
   pub rest : List ℕ
@@ -56,17 +56,18 @@ pub record IsQuestion (text : List ℕ) (question : Query) : Type 0 where
 
 -- ---- policies
 
--- the text is a question, and what it asks about never comes about
+-- the text is a question, and the right that it asks about never comes about
 pub record IsKeptPolicy (p : Shown) (silent : List ℕ) (text : List ℕ) : Type 0 where
   pub question : Query
   pub is : IsQuestion text question
   pub never : NeverComes p silent question
 
--- What answers mean for the exit status. If it is 0 after them, it was before, and what must never come about never does.
+-- The meaning of answers for the exit status. If the status is 0 after them, it was 0 before, and a right that must never come
+-- about never does.
 pub record MeetsPolicy (old new : ℕ) (must_never : Bool) (never : Type 0) : Type 0 where
   pub before : new ≡ 0 → old ≡ 0
   pub kept : new ≡ 0 → IsTrue must_never → never
 
--- the exit status after an answer: 1 if something must never come about and the answer isn't `never`
+-- The exit status after an answer. It is 1 if something must never come about and the answer isn't `never`.
 abbrev pub status_after : ℕ → Bool → Bool → ℕ
 status_after status must_never is_never = if (must_never && not is_never) then 1 else status

@@ -17,11 +17,11 @@ pub record WritesEdge (text : List ℕ) (edge : Edge) : Type 0 where
   pub is : codes "edge " ++ text ≡ line_text (line.Edge edge)
   pub differ : edge.from ≢ edge.to
 
--- each text writes the name in its place: no text is left out, and no other name is there
+-- each text writes the name at its place, and there are no other names
 abbrev pub AreNameTexts : List (List ℕ) → List ℕ → Type 0
 AreNameTexts texts names = AllZip WritesWord texts names
 
--- each text writes the edge in its place: no text is left out, and no other edge is there
+-- each text writes the edge at its place, and there are no other edges
 abbrev pub AreEdges : List (List ℕ) → List Edge → Type 0
 AreEdges texts edges = AllZip WritesEdge texts edges
 

@@ -19,7 +19,7 @@ more_names_text names = if names == 1 then codes " name more\n" else codes " nam
 abbrev pub wanting_text : ℕ → List ℕ
 wanting_text names = codes "could, with " ++ (decimal names ++ more_names_text names)
 
--- turns that lead there, none where it is so already
+-- the turns by which the right comes about, or none if it is held already
 abbrev pub could_text : List Turn → List ℕ
 could_text turns = if length turns == 0 then codes "now\n" else codes "could\n" ++ flat_map turn_text turns
 

@@ -1,4 +1,4 @@
--- What the exit status says.
+-- The meaning of the exit status.
 use Rattle.std.specs.Prelude.{◌≡◌, ◌≢◌, ◌↔◌, ℕ, List, [], codes, Option, Some, IfSome, option_map}
 use Rattle.std.specs.List.{All}
 use Rattle.clap.specs.Matches.{first_value, found_of}
@@ -21,24 +21,24 @@ use Rattle.tgcould.specs.Policies.{IsQuestion, texts_of}
 use Rattle.tgcould.specs.Supposed.{IsSupposed}
 use Rattle.tg_could.specs.Reached.{with_edges}
 
--- the name of a vertex of a question: the next to be made has the number of those that were
+-- The name of a vertex of a question. The name of the next vertex is the number of vertices that were made.
 abbrev pub named_on : ProtectionGraph → VertexWord → ℕ
 named_on g (Named name) = name
 named_on g New = g.made
 
--- what the question asks about never comes about on this graph; with a star it is about all names, made or not
+-- The right that the question asks about never comes about on this graph. A question with a star is about all names, made or not.
 abbrev pub NeverComesOn : ProtectionGraph → List ℕ → Query → Type 0
 NeverComesOn g silent (Hold x right y) = NeverHolds silent g (named_on g x) right (named_on g y)
 NeverComesOn g silent (Who right y) = (x : ℕ) → NeverHolds silent g x right (named_on g y)
 NeverComesOn g silent (What x) = (right : Right) (y : ℕ) → NeverHolds silent g (named_on g x) right y
 
--- the text is a question, and what it asks about never comes about on this graph
+-- the text is a question, and the right that it asks about never comes about on this graph
 pub record IsKeptOn (g : ProtectionGraph) (silent : List ℕ) (text : List ℕ) : Type 0 where
   pub question : Query
   pub is : IsQuestion text question
   pub never : NeverComesOn g silent question
 
--- all policies are kept on each graph of which this is the picture, with the edges that are supposed and against all but the silent
+-- all policies are kept on each graph that has this picture, with the supposed edges, against all subjects that aren't silent
 abbrev pub AreKept : ArgMatches → Supposed → Shown → Type 0
 AreKept matches supposed p =
     (g : ProtectionGraph) → IsPictureOf p g → All (IsKeptOn (with_edges g supposed.edges.items) supposed.silent.items) (texts_of matches NEVER.now)
@@ -59,12 +59,13 @@ FailsPolicies matches refused = HasPolicy matches × (¬ AllowsDenied matches) �
 
 -- ---- the exit status
 
--- the text of the stock is what the words say, or none if they say nothing of it
+-- the text of the stock is the text of its option, or none if the option isn't in the words
 abbrev pub SaysStock : ArgMatches → PlainOptions → Type 0
 SaysStock matches options = option_map (λ s. s.now) options.stock ≡ first_value (found_of matches) (codes "stock")
 
--- What the exit status says of a script or a history that was read to its end. If it is known which bytes the reader had, they are its
--- text. If the status is 0, all policies are kept on the graph that it leaves. It is 3 exactly if lines of the script fail the policies.
+-- The meaning of the exit status for a script or a history that was read to its end. If it is known which bytes the reader had,
+-- they are its text. If the status is 0, all policies are kept on the graph that it leaves. It is 3 exactly if lines of the script
+-- fail the policies.
 pub record IsVerdict (options : PlainOptions) (matches : ArgMatches) (remaining : Option (List ℕ)) (status : ℕ) : Type 0 where
   pub outcome : Outcome
   pub left : IfSome remaining (λ bytes. IsLeftBy options bytes outcome)

@@ -4,10 +4,11 @@
 //! runs it on the plain graph, and `tg_could` answers about its picture. The text of a history, which begins with
 //! `kovshenul `, is replayed. The program prints the text of that answer.
 //!
-//! `options` reads the words of the command line, `checks` reports a word that isn't valid, and `supposed` has what the
-//! words suppose. `query` has the question. `ask` asks it and writes the answer with the texts of `text`, and `stars`
-//! lists who and what. `answers` has the answers to all questions, and `notes` has the lines about them on standard
-//! error. `refused` reports lines of the script that were denied or refused. `verdict` has the exit status.
+//! `options` reads the words of the command line, `checks` reports a word that isn't valid, and `supposed` has the
+//! suppositions of the words. `query` has the question. `ask` asks it and writes the answer with the texts of `text`,
+//! and `stars` lists the answers to a question with a star. `answers` has the answers to all questions, and `notes` has
+//! the lines about them on standard error. `refused` reports lines of the script that were denied or refused. `verdict`
+//! has the exit status.
 #![tactic(auto)]
 
 ghost use Rattle.std.specs.Prelude.{◌≡◌, ◌⊎◌, IfOk};

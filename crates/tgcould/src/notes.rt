@@ -1,4 +1,4 @@
-//! What standard error says of answers.
+//! The lines about answers on standard error.
 ghost use Rattle.std.specs.Prelude.{◌≡◌, ◌<◌};
 ghost use Rattle.tgcould.specs.Policies.{status_after};
 
@@ -6,7 +6,7 @@ use crate::ask::AnswerNote;
 use itoa::Buffer;
 use std::alloc::Global;
 
-/// What standard error says of answers, and the exit status.
+/// The lines about answers on standard error, and the exit status.
 #[derive(Drop)]
 pub struct Remarks {
     /// The lines, if memory never ran out.

@@ -16,7 +16,7 @@ pub const AS_IF: &str = "as-if";
 /// The questions to be answered.
 pub const ASK: &str = "ask";
 
-/// The questions of what must never come about.
+/// The option whose questions must be answered `never`.
 pub const NEVER: &str = "never";
 
 /// Whether policies may pass though lines of the script were denied or refused.

@@ -15,7 +15,7 @@ pub enum VertexWord {
     New,
 }
 
-/// What is asked.
+/// A question.
 #[derive(Clone, Copy)]
 pub enum Query {
     /// Could x come to hold the right over y? `3 r 7`

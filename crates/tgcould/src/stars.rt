@@ -22,7 +22,7 @@ pub struct Holders {
     pub later: bool,
 }
 
-/// What somebody could come to hold.
+/// The rights that somebody could come to hold.
 #[derive(Drop)]
 pub struct HeldRights {
     /// The vertices that were made, by their names, with the rights over each.
@@ -79,7 +79,8 @@ fn is_never(chance: Chance) -> bool
     }
 }
 
-/// What x could come to hold. Over a name that isn't listed x never holds a right, whether the name was made or not.
+/// The rights that x could come to hold. Over a name that isn't listed x never holds a right, whether the name was made
+/// or not.
 pub fn held_by(alloc: Global, scene: &Scene, x: u64) -> Result<HeldRights, AllocError>
     ensures { IfOk result (ListsWhat scene.now.picture.now scene.now.silent.now x) }
 {

@@ -1,4 +1,4 @@
-//! What the options suppose. Some vertices take no turns, and some edges are asked about as if they were there.
+//! The suppositions of the options. Some vertices take no turns, and some edges are asked about as if they were there.
 ghost use Rattle.std.specs.Prelude.{◌≡◌, ◌≢◌, ◌++◌, codes, IfOk, IfSome};
 ghost use Rattle.std.specs.List.{AllZip};
 ghost use Rattle.tg_text.specs.declared.line.Line.{Line as TheLine};
@@ -18,7 +18,7 @@ const ANY: u64 = u64::MAX;
 
 const NO_NAME: &str = "a vertex is wanted by its name, a number from 0 to 18446744073709551615";
 
-/// What the options suppose.
+/// The suppositions of the options.
 #[derive(Drop)]
 pub struct Supposed {
     /// Who takes no turns.
@@ -28,8 +28,8 @@ pub struct Supposed {
 }
 
 impl Supposed {
-    /// What all values of the two options write. `None` if one of them is no edge or no name, which is said on standard
-    /// error. Fails only when out of memory.
+    /// The suppositions that all values of the two options write. `None` if a value is no edge or no name, which is
+    /// then reported on standard error. Fails only when out of memory.
     pub fn read<R: Eprint>(
         rt: &R,
         alloc: Global,

@@ -30,7 +30,7 @@ pub fn write_last(text: &mut PlainText, script: &Script) -> Result<(), PlainFaul
 }
 
 /// Writes the graph that a history leaves as [`write_last`] does. It shows the vertices of its opening or snapshot, and
-/// those that its entries make. Fails only when out of memory.
+/// the vertices that its entries make. Fails only when out of memory.
 pub fn write_past(
     text: &mut PlainText,
     alloc: Global,

@@ -1,11 +1,11 @@
-//! What all steps of a run have in common.
+//! The parts that all steps of a run have in common.
 
 use crate::shot::Shot;
 use std::alloc::Global;
 use std::collections::BTreeMap;
 use tg_plain::PlainText;
 
-/// What a vertex takes up in each picture.
+/// The place that a vertex takes up in each picture.
 #[derive(Clone, Copy)]
 pub struct Extent {
     /// The columns of the longest of its lines.

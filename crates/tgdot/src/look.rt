@@ -36,7 +36,7 @@ pub struct Style {
 }
 
 impl Style {
-    /// The look of what a subject reaches, or of what none does.
+    /// The look of a vertex that a subject reaches, or of a vertex that no subject reaches.
     pub fn reached(reached: bool, is_bold: bool) -> Style {
         let (colour, stroke) = if reached {
             (Colour::Black, Stroke::Solid)

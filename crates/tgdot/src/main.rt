@@ -2,10 +2,9 @@
 //!
 //! It reads the script that `tgstore` reads, with the same options `--workers`, `--vertices` and `--stock`. It runs the
 //! script on the plain graph of `tg_model`, without heap and journal. Or it reads the text of a history, and replays
-//! it. Then it prints a digraph. A box is a subject,
-//! with a dashed border if it retired. A circle is an object, and an arrow with its rights is an edge. What no subject
-//! reaches any more is grey, and a collection of the whole heap frees it. With `--steps` it prints a digraph for each
-//! line.
+//! it. Then it prints a digraph. A box is a subject, with a dashed border if it retired. A circle is an object, and an
+//! arrow with its rights is an edge. A vertex that no subject reaches any more is grey, and a collection of the whole
+//! heap frees it. With `--steps` it prints a digraph for each line.
 //!
 //! `options` reads the words of the command line. `tg_plain` reads the script and runs its lines. `run` follows them,
 //! and knows which edges there are, so that only pairs of vertices with an edge are asked for. `reach` says what

@@ -42,7 +42,7 @@ impl Marks {
         marks
     }
 
-    /// The two vertices that have to be shown even where they aren't there. They are one where it is named twice.
+    /// The two vertices that have to be shown even if they aren't there. They are one vertex if it is named twice.
     pub fn needed(&self) -> Option<(u64, u64)> {
         match (self.missing, self.twice) {
             (Some((ends, _)), _) => Some(ends),
@@ -51,7 +51,7 @@ impl Marks {
         }
     }
 
-    /// Whether the vertex has to be shown even where it isn't there.
+    /// Whether the vertex has to be shown even if it isn't there.
     pub fn needs(&self, name: u64) -> bool {
         match self.needed() {
             Some((from, to)) => name == from || name == to,
@@ -59,7 +59,7 @@ impl Marks {
         }
     }
 
-    /// The edge that has to be shown even where it isn't there.
+    /// The edge that has to be shown even if it isn't there.
     pub fn needed_edge(&self) -> Option<(u64, u64)> {
         match self.missing {
             Some((ends, _)) => Some(ends),

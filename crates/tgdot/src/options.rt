@@ -82,12 +82,12 @@ pub const COMMAND_LINE: CommandLine = CommandLine {
     choices: CHOICES,
 };
 
-/// What the words ask for.
+/// The requests of the words.
 #[derive(Clone, Copy)]
 pub struct DotOptions<'a> {
-    /// What the script runs on.
+    /// The options of the plain graph on which the script runs.
     pub plain: PlainOptions<'a>,
-    /// The lines whose steps are drawn, or `None` where only the last graph is.
+    /// The lines whose steps are drawn, or `None` if only the last graph is.
     pub steps: Option<LineRange>,
 }
 
@@ -106,7 +106,7 @@ impl LineRange {
         self.from <= line && line <= self.to
     }
 
-    /// A fault where there is no such line, whatever the script.
+    /// A fault if there is no such line, whatever the script.
     pub fn check(self) -> Result<(), PlainFault> {
         let LineRange { from, to } = self;
         if from > to {

@@ -9,15 +9,15 @@ use tg_model::{Deed, Edge, Reply};
 use tg_plain::last_picture;
 use tg_rights::Rights;
 
-/// The graph after a history. It has the vertices of the opening or snapshot, and those that entries make. The run
-/// remembers whether memory ran out for a part of it.
+/// The graph after a history. It has the vertices of the opening or snapshot, and the vertices that entries make. The
+/// run remembers whether memory ran out for a part of it.
 #[derive(Drop)]
 pub struct PastRun {
     // The active subjects.
     subjects: Vec<u64>,
     /// The names of the vertices.
     pub names: BTreeSet<u64>,
-    /// The names of those that are subjects, or were subjects until they retired.
+    /// The names of all vertices that are subjects, or were subjects until they retired.
     pub ever_subjects: BTreeSet<u64>,
     /// The ends of the edges.
     pub ends: BTreeSet<(u64, u64)>,

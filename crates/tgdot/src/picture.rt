@@ -19,7 +19,8 @@ const CIRCLE_MARGIN: u64 = 34;
 // The most edges that dot draws without lines from their labels.
 const MOST_PLAIN: usize = 8;
 
-/// Writes the step as a digraph with all that the frame has, by name. What the step doesn't have is invisible.
+/// Writes the step as a digraph with all that the frame has, by name. A vertex or an edge that the step doesn't have is
+/// invisible.
 pub fn write_shot(text: &mut PlainText, frame: &Frame, shot: &Shot) {
     write_head(text, frame, shot);
     write_kinds(text, frame.edges.len() > MOST_PLAIN);

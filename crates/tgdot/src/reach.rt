@@ -1,4 +1,4 @@
-//! What subjects reach.
+//! The vertices that subjects reach.
 
 use std::alloc::Global;
 use std::collections::BTreeSet;
@@ -24,7 +24,8 @@ impl Reach {
         }
     }
 
-    /// Looks anew for what these subjects reach along edges with these ends, if so many vertices were made.
+    /// Looks anew for the vertices that these subjects reach along edges with these ends, if so many vertices were
+    /// made.
     pub fn fill(&mut self, subjects: &[u64], made: u64, edges: &BTreeSet<(u64, u64)>) {
         self.names.clear();
         for name in subjects {

@@ -31,7 +31,7 @@ pub struct ScriptRun {
 }
 
 impl ScriptRun {
-    /// A run of which nothing is known but the graph.
+    /// A run with a graph, before its first line.
     pub fn new(alloc: Global, plain: PlainRun) -> ScriptRun {
         ScriptRun {
             alloc,
@@ -69,7 +69,7 @@ impl ScriptRun {
         }
     }
 
-    /// What the vertex of this name stores, where it was made and no collection took it.
+    /// The value that the vertex of this name stores, if it was made and no collection took it.
     pub fn value(&self, name: u64) -> Option<&Value> {
         if self.names.contains(&name) {
             self.values.get(name as usize)
@@ -102,7 +102,7 @@ impl ScriptRun {
         }
     }
 
-    /// Looks anew for what the subjects reach.
+    /// Looks anew for the vertices that the subjects reach.
     pub fn reach(&mut self) {
         let graph = &self.plain.graph;
         self.reached
@@ -185,7 +185,7 @@ impl ScriptRun {
     }
 }
 
-/// The ends of the edge that a command adds to or takes from, where it is served.
+/// The ends of the edge that a command adds to or takes from, if it is served.
 pub fn changed_by(worker: u64, command: &Command) -> Option<(u64, u64)> {
     match *command {
         Command::Take { target, .. } | Command::Remove { target, .. } => Some((worker, target)),

@@ -1,4 +1,4 @@
-//! What a step shows.
+//! The parts of a step that are shown.
 
 use crate::look::{Colour, Stroke, Style};
 use crate::marks::{Marks, NO_MARKS};
@@ -16,9 +16,9 @@ pub struct Shot {
     pub number: u64,
     /// The number and the line.
     pub heading: PlainText,
-    /// What the line was answered.
+    /// The answer to the line.
     pub told: PlainText,
-    /// What is highlighted.
+    /// The marks on the parts that are highlighted.
     pub marks: Marks,
     /// The run.
     pub run: ScriptRun,
@@ -43,7 +43,7 @@ pub struct EdgeView {
 }
 
 impl Shot {
-    /// A graph of which nothing is shown yet.
+    /// A graph without anything to show yet.
     pub fn new(alloc: Global, plain: PlainRun) -> Shot {
         Shot {
             number: 0,
@@ -104,7 +104,7 @@ impl Shot {
         }
     }
 
-    /// Writes the third line of a vertex, or nothing where there is nothing to note.
+    /// Writes the third line of a vertex, or nothing if there is nothing to note.
     pub fn write_note(&self, text: &mut PlainText, name: u64) {
         let mut space = "";
         for (holds, note) in self.notes(name) {

@@ -20,13 +20,13 @@ stop_read_failures (Err (stop.Script fault)) = read_failures {T = Unit {0}} (Err
 stop_read_failures (Err (stop.Race fault)) = race_read_failures {T = Unit {0}} (Err fault)
 stop_read_failures r = 0
 
--- how many failures of the sink it is, where finishing it is left out
+-- how many failures of the sink it is, without the finish of the sink
 abbrev pub stop_write_failures : {T : Type 0} → Result T Stop → ℕ
 stop_write_failures (Err (stop.Script fault)) = write_failures {T = Unit {0}} (Err fault)
 stop_write_failures (Err (stop.Race fault)) = race_write_failures {T = Unit {0}} (Err fault)
 stop_write_failures r = 0
 
--- 2 where the words are at fault, else 1
+-- 2 if the words are at fault, else 1
 abbrev pub status_of_stop : Stop → ℕ
 status_of_stop stop.BadWords = 2
 status_of_stop stop.HelpUnwritten = 1
@@ -42,7 +42,7 @@ status_of_stop (stop.Resume (resume.Store fault)) = 1
 status_of_stop (stop.Script fault) = 1
 status_of_stop (stop.Race fault) = 1
 
--- the status that was answered, or that of what ended the program before
+-- the status that was answered, or the status of the fault that ended the program before
 abbrev pub exit_status : Result ℕ Stop → ℕ
 exit_status (Ok status) = status
 exit_status (Err why) = status_of_stop why

@@ -4,7 +4,7 @@ use Rattle.tg_space.specs.declared.limits.TheConstants.{MOST_BLOCKS}
 use Rattle.tg_model.specs.declared.opening.TheConstants.{MAX_WORKERS, MAX_VERTICES}
 use Rattle.tg_script.specs.declared.run_script.Settings.{Settings}
 
--- each number is in its range; fewer vertices than workers are no matter of the ranges
+-- Each number is in its range. The ranges allow fewer vertices than workers.
 pub record AreInRange (s : Settings) : Type 0 where
   pub workers : (1 ≤ s.workers) × (s.workers ≤ MAX_WORKERS)
   pub helpers : (1 ≤ s.helpers) × (s.helpers ≤ 8)

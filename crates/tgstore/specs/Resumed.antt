@@ -1,4 +1,4 @@
--- What a run is that goes on from the history of a file.
+-- A run that goes on from the history of a file.
 use Rattle.std.specs.Prelude.{◌≡◌, ◌≢◌, ◌-◌, ℕ, Bool, List, ◌++◌, length, map, Option, Some, None, Result, Ok, Err}
 use Rattle.std.specs.List.{list_any}
 use Rattle.tg_journal.specs.declared.entry.Entry.{Entry}
@@ -47,15 +47,15 @@ IsOther asked begin (OtherWorkers n has) = (asked.workers ≡ Some n) × (has �
 IsOther asked begin (OtherVertices n has) = IsAsked asked.workers (workers_of begin) × (asked.max_vertices ≡ Some n) × (has ≡ limit_of begin) × (n ≢ has)
 IsOther asked begin (Store fault) = ⊥
 
--- What a run goes on from has the store after this history, a new box of each kind of the stock, and the helpers that were asked for. It
--- leaves out the entries before the history when it counts.
+-- A run after this history has the store after the history. It has a new box of each kind of the stock, and the helpers that were
+-- asked for. Its counts leave out the entries before the history.
 pub record IsRunAfter (history : History) (start : ResumedStart) {P : Type 0} (from : RunOn P) : Type 0 where
   pub store : IsRevived history.start history.entries.items start.limits from.store
   pub skipped : from.skipped ≡ entries_made_before history.start
   pub stock : from.stock.items ≡ map value_of_item start.stock.items
   pub helpers : from.helpers ≡ start.helpers
 
--- the same after the history that has this text, and that is as the words ask
+-- a run after the history that has this text, if the history is as the words ask
 pub record IsResumed (text : List ℕ) (start : ResumedStart) {P : Type 0} (from : RunOn P) : Type 0 where
   pub history : History
   pub is : IsTextOf text history
@@ -66,26 +66,27 @@ pub record IsResumed (text : List ℕ) (start : ResumedStart) {P : Type 0} (from
 abbrev pub count_before : {P : Type 0} → RunOn P → ℕ
 count_before from = length from.store.entries - from.skipped
 
--- The script of these bytes was run from there, to its end or to a fault, and this is left of them, is in the sink and was seen by a watch.
+-- The script of these bytes was run from there, to its end or to a fault. These bytes are left, these are in the sink, and this was
+-- seen by a watch.
 abbrev pub WentOn : {P T : Type 0} → Bool → RunOn P → List ℕ → List ℕ → Option Bool → Result T Stop → List ℕ → Option (List ℕ) → Option Bool → Type 0
 WentOn {P} {T} entries from bytes before saw (Ok done) left after saw' = GoneOn {T = T} entries (scene_on from) (count_before from) bytes before saw (Ok done) left after saw'
 WentOn {P} {T} entries from bytes before saw (Err (stop.Script fault)) left after saw' = GoneOn {T = T} entries (scene_on from) (count_before from) bytes before saw (Err fault) left after saw'
 WentOn entries from bytes before saw (Err why) left after saw' = ⊥
 
--- the same by what source, sink and watch tell
+-- a run from there, by what is known of the source, the sink and the watch
 abbrev pub GoesOnBy : {P T : Type 0} → Bool → RunOn P → Option (List ℕ) → Option (List ℕ) → Option (List ℕ) → Option (List ℕ) → Option Bool → Option Bool → Result T Stop → Type 0
 GoesOnBy entries from left left' taken taken' saw saw' result =
     (bytes before : List ℕ) → left ≡ Some bytes → taken ≡ Some before → (rest : List ℕ) × (left' ≡ Some rest) × WentOn entries from bytes before saw result rest taken' saw'
 
--- The script of these bytes was run from there, to its end or to a fault, and this is left of them and is in the writer. A run to the end
--- has this exit status.
+-- The script of these bytes was run from there, to its end or to a fault. These bytes are left, and these are in the writer. A run
+-- to the end has this exit status.
 abbrev pub ServedOn : {P T : Type 0} → ResumedStart → RunOn P → List ℕ → List ℕ → Result T Stop → ℕ → List ℕ → Option (List ℕ) → Type 0
 ServedOn start from bytes before (Ok done) status left after =
     (answers : List Answer) × (es : List Entry) × GoesOn (scene_on from) bytes None left answers es
     × (after ≡ Some (before ++ whole_text start.entries (count_before from) answers es)) × (status ≡ status_if start.strict (list_any says_refusal answers))
 ServedOn {P} {T} start from bytes before (Err why) status left after = WentOn {T = T} start.entries from bytes before None (Err why) left after None
 
--- the same by what is known of a reader and a writer
+-- a run from there with its exit status, by what is known of a reader and a writer
 abbrev pub ServesOn : {P T : Type 0} → ResumedStart → RunOn P → Option (List ℕ) → Option (List ℕ) → Option (List ℕ) → Option (List ℕ) → Result T Stop → ℕ → Type 0
 ServesOn start from left left' taken taken' result status =
     (bytes before : List ℕ) → left ≡ Some bytes → taken ≡ Some before → (rest : List ℕ) × (left' ≡ Some rest) × ServedOn start from bytes before result status rest taken'

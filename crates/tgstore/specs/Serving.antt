@@ -1,4 +1,4 @@
--- What a run reads and writes.
+-- The bytes that a run reads and writes.
 use Rattle.std.specs.Prelude.{◌≡◌, ◌⊎◌, ℕ, Bool, true, false, List, map, replicate, Option, Some, Result, Ok, Err, IfErr}
 use Rattle.tg_text.specs.declared.stock.StockItem.TheVariants.{Cell}
 use Rattle.tg_script.specs.Script.{Start as ScriptStart, start_with}
@@ -12,17 +12,17 @@ use Rattle.tgstore.specs.declared.start.StartFault.TheVariants.{OutOfMemory}
 use Rattle.tgstore.specs.declared.stop.Stop.{Stop}
 use Rattle.tgstore.specs.declared.stop.Stop.TheVariants as stop
 
--- what the script is run with: these settings, a cell with 0 for each worker, and a new box of each kind of the stock
+-- The start of the script has these settings. Each worker has a cell with 0, and the stock has a new box of each of its kinds.
 abbrev pub script_start_of : Start → ScriptStart
 script_start_of start = start_with start.settings (replicate start.settings.workers (value_of_item Cell)) (map value_of_item start.stock.items)
 
--- what is written of a race
+-- the text that is written of a race
 abbrev pub race_text_as : Bool → RaceText
 race_text_as false = reply_race
 race_text_as true = entry_race
 
--- The script of these bytes was run, line by line or as a race, and replies or entries were written, as the start says, and this is left
--- of them and is in the writer; or there was no memory for drafts, and nothing was read or written.
+-- The script of these bytes was run, line by line or as a race, and replies or entries were written, as the start says. These bytes
+-- are left, and these are in the writer. Or there was no memory for drafts, and nothing was read or written.
 abbrev pub Served : {T : Type 0} → Start → List ℕ → List ℕ → Result T Stop → List ℕ → Option (List ℕ) → Type 0
 Served {T} start bytes before (Ok done) left after =
     ((start.race ≡ false) × RanAs start.entries (script_start_of start) bytes before (Ok done) left after) ⊎ ((start.race ≡ true) × HasRaced (race_text_as start.entries) (script_start_of start) bytes before (Ok done) left after)
@@ -31,13 +31,13 @@ Served {T} start bytes before (Err (stop.Race fault)) left after = (start.race �
 Served {T} start bytes before (Err (stop.Start OutOfMemory)) left after = (left ≡ bytes) × (after ≡ Some before)
 Served {T} start bytes before (Err why) left after = ⊥
 
--- A run from this start, by the bytes that its source and its sink tell of before it and after it. A fault that ends it is reported as
--- status 1.
+-- A run from this start, by the bytes that are known of its source and its sink before and after the run. A fault that ends the run
+-- is reported as status 1.
 pub record ServesFrom {T : Type 0} (start : Start) (left left' taken taken' : Option (List ℕ)) (result : Result T Stop) : Type 0 where
   pub status : IfErr result (λ why. status_of_stop why ≡ 1)
   pub output : (bytes before : List ℕ) → left ≡ Some bytes → taken ≡ Some before → (rest : List ℕ) × (left' ≡ Some rest) × Served start bytes before result rest taken'
 
--- the run was begun: memory didn't run out before it
+-- the run was begun, because memory didn't run out before
 abbrev pub WasBegun : {T : Type 0} → Result T Stop → Type 0
 WasBegun (Ok done) = Unit {0}
 WasBegun (Err (stop.Script fault)) = Unit {0}

@@ -20,7 +20,7 @@ IsBadStock text = (items : List StockItem) → ¬ IsStockText text items
 abbrev pub MayHoldWorkers : Settings → Type 0
 MayHoldWorkers s = s.workers ≤ s.max_vertices
 
--- the first of the three that holds is the fault; memory is wanting only where the text is that of a stock
+-- The fault is the first of the three that holds. Memory runs out only if the text writes a stock.
 abbrev pub IsStartFault : Options → StartFault → Type 0
 IsStartFault o BadStock = IsBadStock o.stock.now
 IsStartFault o BadLimits = (items : List StockItem) × IsStockText o.stock.now items × (o.settings.max_vertices < o.settings.workers)
@@ -28,7 +28,7 @@ IsStartFault o StrictRace = (items : List StockItem) × IsStockText o.stock.now 
 IsStartFault o ResumedRace = ⊥
 IsStartFault o OutOfMemory = (items : List StockItem) × IsStockText o.stock.now items
 
--- the first of two that holds is the fault of a run that goes on from a history; memory is wanting only where the text is that of a stock
+-- The fault of a run that goes on from a history is the first of two that holds. Memory runs out only if the text writes a stock.
 abbrev pub IsResumeFault : Options → StartFault → Type 0
 IsResumeFault o BadStock = IsBadStock o.stock.now
 IsResumeFault o BadLimits = ⊥
@@ -40,7 +40,7 @@ IsResumeFault o OutOfMemory = (items : List StockItem) × IsStockText o.stock.no
 abbrev pub IsReady : Start → Type 0
 IsReady s = (1 ≤ s.settings.workers) × (s.settings.workers ≤ MAX_WORKERS)
 
--- a run may be served from here: the number of workers is in its range, and the collector is ready, as this says
+-- A run may be served from this start. The number of workers is in its range, and the collector is ready in this sense.
 pub record MayServe (Ready : Type 0) (start : Start) : Type 0 where
   pub collector : Ready
   pub ready : IsReady start

@@ -24,8 +24,8 @@ WatchesFrom start left left' taken taken' saw saw' =
     (bytes before : List ℕ) → left ≡ Some bytes → taken ≡ Some before → start.race ≡ false →
     (rest : List ℕ) × (left' ≡ Some rest) × IsWatched start.entries (script_start_of start) bytes before rest taken' saw saw'
 
--- The exit status of a run to the end of its script: 3 exactly where the run is strict and one of the answers to its lines is a denial or
--- a refusal, else 0. These answers are those whose text was written, or that of their history.
+-- The exit status of a run to the end of its script. It is 3 exactly if the run is strict and an answer to one of its lines is a
+-- denial or a refusal, else 0. The text of these answers was written, or the text of their history.
 abbrev pub HasStatus : Start → Option (List ℕ) → Option (List ℕ) → Option (List ℕ) → Option (List ℕ) → ℕ → Type 0
 HasStatus start left left' taken taken' status =
     (bytes before : List ℕ) → left ≡ Some bytes → taken ≡ Some before → start.race ≡ false →

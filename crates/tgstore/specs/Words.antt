@@ -1,5 +1,5 @@
--- What the words of the command line say. How they are taken apart is clap's matter: behind the program's name `--NAME` takes
--- the next word, `--NAME=TEXT` takes the text, `--race`, `--entries`, `--why` and `--strict` stand alone, and no option comes twice.
+-- The meaning of the words of the command line. Clap takes them apart after the program's name. There `--NAME` takes the next word,
+-- and `--NAME=TEXT` takes the text. The options `--race`, `--entries`, `--why` and `--strict` have no value. No option comes twice.
 use Rattle.std.specs.Prelude.{◌≡◌, ℕ, Bool, true, false, List, [], ◌∷◌, Option, Some, None, codes, option_map, unwrap_or}
 use Rattle.std.specs.Option.{option_map_or}
 use Rattle.std.specs.Str.Parse.{digits_value, without_leading_plus}
@@ -78,7 +78,7 @@ command_line =
     (flag_rule (codes "strict")))
     (option_rule (codes "resume"))
 
--- the number that a text writes, or this one where there is no text
+-- the number that a text writes, or this number if there is no text
 abbrev pub number_or : ℕ → Option (List ℕ) → ℕ
 number_or default text = option_map_or (λ digits. digits_value 10 (without_leading_plus digits)) text default
 
@@ -86,21 +86,21 @@ number_or default text = option_map_or (λ digits. digits_value 10 (without_lead
 abbrev pub number_if : Option (List ℕ) → Option ℕ
 number_if text = option_map (λ digits. digits_value 10 (without_leading_plus digits)) text
 
--- the number that an option has in the words, or this one where they don't have it
+-- the number that an option has in the words, or this number if the words don't have the option
 abbrev pub number_said : List ℕ → ℕ → List (List ℕ) → ℕ
 number_said name default words = number_or default (one_of name (matches_of command_line words))
 
--- the text that an option has in the words, or the empty one
+-- the text that an option has in the words, or the empty text
 abbrev pub text_said : List ℕ → List (List ℕ) → List ℕ
 text_said name words = unwrap_or (first_of name (matches_of command_line words)) []
 
--- an option with no value is in the words, whose text is then `true`, or doesn't
+-- an option with no value is in the words, and then its text is `true`, or it isn't
 pub record IsFlag (text : Option (List ℕ)) (stands : Bool) : Type 0 where
   pub set : text ≡ Some (codes "true") → stands ≡ true
   pub unset : text ≡ Some (codes "false") → stands ≡ false
   pub absent : text ≡ None → stands ≡ false
 
--- the options are those of the words; no space has more than 1,048,576 blocks
+-- The options are the options of the words. No space has more than 1,048,576 blocks.
 pub record AreSaid (words : List (List ℕ)) (o : Options) : Type 0 where
   pub workers : o.settings.workers ≡ number_said (codes "workers") 2 words
   pub helpers : o.settings.helpers ≡ number_said (codes "helpers") 1 words
@@ -116,7 +116,7 @@ pub record AreSaid (words : List (List ℕ)) (o : Options) : Type 0 where
   pub asked : (o.asked.workers ≡ number_if (one_of (codes "workers") (matches_of command_line words)))
       × (o.asked.max_vertices ≡ number_if (one_of (codes "vertices") (matches_of command_line words)))
 
--- the numbers are those that were found in words which were taken apart; no space has more than 1,048,576 blocks
+-- The numbers were found in words that were taken apart. No space has more than 1,048,576 blocks.
 pub record AreFound (found : Found) (s : Settings) : Type 0 where
   pub workers : s.workers ≡ number_or 2 (one_text found (codes "workers"))
   pub helpers : s.helpers ≡ number_or 1 (one_text found (codes "helpers"))
@@ -124,7 +124,7 @@ pub record AreFound (found : Found) (s : Settings) : Type 0 where
   pub blocks : s.limits.max_blocks ≡ number_or 4096 (one_text found (codes "blocks"))
   pub space_blocks : s.limits.space_blocks ≡ MOST_SPACE_BLOCKS
 
--- the numbers that a history has too are those that were found
+-- the numbers that a history has too, as they were found in the words
 pub record AreAsked (found : Found) (asked : Asked) : Type 0 where
   pub workers : asked.workers ≡ number_if (one_text found (codes "workers"))
   pub vertices : asked.max_vertices ≡ number_if (one_text found (codes "vertices"))

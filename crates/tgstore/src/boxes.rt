@@ -1,4 +1,4 @@
-//! The boxes of a run, which are what its vertices store.
+//! The boxes of a run, in which its vertices store their numbers.
 ghost use Rattle.std.specs.Prelude.{◌≡◌, IfOk, OnOk, map, replicate};
 ghost use Rattle.tg_text.specs.declared.stock.StockItem.TheVariants.{Cell};
 ghost use Rattle.tgstore.specs.Boxes.{value_of_item};
@@ -16,9 +16,9 @@ use std::thread::Threads;
 use tg_payload::{Draft, LawPayload, Payload};
 use tg_script::{Collector, Sink, Source, StockItem, Watch};
 
-/// Runs the source's script from the start, with new boxes: a cell with 0 for each worker, and those of the stock.
-/// Memory may be wanting before it; then nothing is read or written. The watch sees the answer to each line, but not
-/// those of a race.
+/// Runs the source's script from the start, with new boxes. Each worker has a cell with 0, and the stock has the boxes
+/// that it names. If memory runs out before the run, nothing is read or written. The watch sees the answer to each
+/// line, except in a race.
 pub(crate) fn serve_with_boxes<
     R: Threads + Wait + Sync,
     C: Collector,

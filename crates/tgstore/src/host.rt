@@ -1,8 +1,8 @@
-//! What a run of the program asks of the machine.
+//! The parts of the machine that a run of the program uses.
 
 use std::alloc::Global;
 
-/// The runtime, the allocator, and what makes a run's collections.
+/// The runtime, the allocator, and the collector of a run.
 #[derive_where(Clone, Copy)]
 pub struct RunHost<'a, R, C> {
     pub rt: &'a R,

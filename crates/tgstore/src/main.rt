@@ -10,9 +10,9 @@
 //! `streams_on` runs the script on it.
 //!
 //! The definitions to believe are in `specs/`. `Words` says what the words ask for. `Ranges` and `Starts` say what is
-//! refused before any input is read. `Boxes` says what boxes begin with, `Serving` what a run reads and writes,
-//! `Faults` what the statuses are, and `Strict` which status a strict run has. `Resumed` says what a run reads and
-//! writes that goes on from a history.
+//! refused before any input is read. `Boxes` says what boxes begin with, and `Serving` says what a run reads and
+//! writes. `Faults` has the statuses, and `Strict` has the status of a strict run. `Resumed` says what a run that goes
+//! on from a history reads and writes.
 #![tactic(auto)]
 
 mod boxes;

@@ -43,7 +43,7 @@ impl LastLine {
     }
 }
 
-/// A source that notes the line which it gave last, where that is asked for.
+/// A source that notes the line which it gave last, if that is asked for.
 #[derive(Drop)]
 pub(crate) struct Noted<S: Source + Drop> {
     pub source: S,
@@ -63,7 +63,7 @@ impl<S: Source + Drop> Noted<S> {
         }
     }
 
-    /// Why the last line is bad, where a bad line ended a run with so many workers at first, and that was asked for.
+    /// Why the last line is bad, if a bad line ended a run with so many workers at first, and the reason was asked for.
     pub(crate) fn reason(&self, outcome: &Result<(), Stop>, workers: u64) -> Option<&'static str> {
         if !self.is_asked {
             return None;

@@ -9,8 +9,8 @@ use tg_payload::Payload;
 use tg_script::{Collector, Helpers, OneThread, Refusal, helpers_refusal};
 use tg_store::{Kind, Store};
 
-/// What makes a run's collections with helpers on threads. Where there is to be one helper alone, the thread that runs
-/// the script collects, and none is started.
+/// The collector of a run whose helpers have threads. If there is to be one helper alone, the thread that runs the
+/// script collects, and no other thread is started.
 #[derive(Clone, Copy)]
 pub struct OnThreads<'a, R: Threads + Wait + Sync> {
     rt: &'a R,

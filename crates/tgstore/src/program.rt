@@ -57,7 +57,7 @@ fn tell_failure<R: Eprint>(rt: &R, failure: Failure) {
     }
 }
 
-/// The exit status where all was done, or where the program ended before.
+/// The exit status if all was done, or if the program ended before.
 pub fn exit_status(outcome: &Result<u8, Stop>) -> u8
     ensures { result ≡ exit_status outcome.now }
 {

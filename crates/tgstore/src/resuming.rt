@@ -34,8 +34,8 @@ pub enum HistoryFault {
     Store(ReviveFault),
 }
 
-/// What a run goes on from: the store after the history whose text is in the file, and new boxes of the stock. The
-/// history has to be as the words ask.
+/// Makes the store and the boxes from which a run goes on. The store is the store after the history whose text is in
+/// the file, and the boxes are new boxes of the stock. The history has to be as the words ask.
 pub(crate) fn go_on_from<F: Read + Drop>(
     alloc: Global,
     file: F,

@@ -18,21 +18,21 @@ use tg_script::{
 };
 use tg_threads::{Entries, NoTurnstile, RaceFault, Replies, run_race};
 
-/// What a run starts from, with its payloads.
+/// The start of a run, with its payloads.
 #[derive(Drop)]
 pub struct RunParts<'a, P: Payload> {
     pub start: &'a Start,
-    /// What each worker stores, by rising name.
+    /// The payload of each worker, by rising name.
     pub workers: Vec<P>,
-    /// What the vertices that are made store, in order.
+    /// The drafts of payloads for the vertices that are made, in order.
     pub stock: Vec<Draft<P>>,
 }
 
-/// Runs the source's script from the start with these payloads, and puts the replies into the sink, as
-/// `run_script_with` does with the start's settings, or, where the start says so, as `run_race` does, and then entries
-/// in the place of replies, as `run_script_entries` and `run_race` with `Entries` do. Memory may be wanting for drafts
-/// of what the workers store; then nothing is read or written. The watch sees the answer to each line, but not those
-/// of a race.
+/// Runs the source's script from the start with these payloads, and puts the replies into the sink. It does so as
+/// `run_script_with` does with the start's settings, or as `run_race` does if the start asks for a race. If the start
+/// asks for entries in the place of replies, `run_script_entries` and `run_race` with `Entries` write them. If memory
+/// runs out for drafts of the workers' payloads, nothing is read or written. The watch sees the answer to each line,
+/// except in a race.
 #[inline(always)]
 pub fn serve<
     P: Payload + Send,

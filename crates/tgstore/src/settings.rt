@@ -1,8 +1,8 @@
-//! What the command line asks for.
+//! The requests of the command line.
 
 use tg_script::Settings;
 
-/// What the words of the command line ask for.
+/// The requests of the words of the command line.
 #[derive(Clone, Copy, Debug, Drop)]
 pub struct Options<'a> {
     pub settings: Settings,
@@ -22,7 +22,7 @@ pub struct Options<'a> {
     pub asked: Asked,
 }
 
-/// The numbers that the words give, if they give them. Those of a history that a run goes on from have to be the same.
+/// The numbers that the words give, if they give them. A history from which a run goes on has to have the same numbers.
 #[derive(Clone, Copy, Debug)]
 pub struct Asked {
     pub workers: Option<u64>,

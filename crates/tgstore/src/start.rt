@@ -9,7 +9,7 @@ use std::alloc::{AllocError, Global};
 use tg_script::{Helpers, Limits, Settings, StockFault, StockItem, read_stock};
 use thiserror::Error;
 
-/// What a run is given beside its script.
+/// The settings of a run, which it is given beside its script.
 #[derive(Debug, Drop)]
 pub struct Start {
     pub settings: Settings,
@@ -25,13 +25,13 @@ pub struct Start {
     pub stock: Vec<StockItem>,
 }
 
-/// What a run that goes on from a history is given beside its script and the history.
+/// The settings of a run that goes on from a history, which it is given beside its script and the history.
 #[derive(Debug, Drop)]
 pub struct ResumedStart {
     pub helpers: Helpers,
     /// How many blocks the heap may have.
     pub limits: Limits,
-    /// What the words ask of the history.
+    /// The numbers that the words ask of the history.
     pub asked: Asked,
     /// Whether entries are written in the place of replies.
     pub entries: bool,
@@ -89,8 +89,8 @@ impl From<StockFault> for StartFault {
     }
 }
 
-/// What the options ask for. Else `BadStock`, then `BadLimits`, then `StrictRace`, exactly where they hold, or
-/// `OutOfMemory`. A bad stock is found whatever memory there is.
+/// The start for which the options ask. It is refused with `BadStock`, then `BadLimits`, then `StrictRace`, exactly if
+/// they hold, or with `OutOfMemory`. A bad stock is found whatever memory there is.
 pub fn prepare(alloc: Global, options: &Options) -> Result<Start, StartFault>
     requires { AreInRange options.now.settings }
     ensures settings { IfOk result (λ start. (start.settings ≡ options.now.settings) × MayHoldWorkers start.settings) }
@@ -121,8 +121,8 @@ pub fn prepare(alloc: Global, options: &Options) -> Result<Start, StartFault>
     })
 }
 
-/// What the options ask for, if the run goes on from a history. Else `BadStock`, then `ResumedRace`, exactly where they
-/// hold, or `OutOfMemory`. A bad stock is found whatever memory there is.
+/// The start for which the options ask, if the run goes on from a history. It is refused with `BadStock`, then
+/// `ResumedRace`, exactly if they hold, or with `OutOfMemory`. A bad stock is found whatever memory there is.
 pub fn prepare_resumed(alloc: Global, options: &Options) -> Result<ResumedStart, StartFault>
     ensures numbers { IfOk result (λ start. (start.helpers ≡ options.now.settings.helpers) × (start.limits ≡ options.now.settings.limits)) }
     ensures asked { IfOk result (λ start. start.asked ≡ options.now.asked) }

@@ -32,7 +32,7 @@ pub enum Stop {
     Race(RaceFault),
 }
 
-/// Why the program ended, and why a line of the script is bad, where that was asked for.
+/// Why the program ended, and why a line of the script is bad, if that was asked for.
 #[derive(Clone, Copy)]
 pub(crate) struct Failure {
     pub stop: Stop,
@@ -74,7 +74,7 @@ impl<T: Drop> From<AllocFailed<T>> for Stop {
 }
 
 impl Stop {
-    /// The exit status: 2 where the words of the command line are at fault, else 1.
+    /// The exit status. It is 2 if the words of the command line are at fault, else 1.
     pub fn status(self) -> u8
         ensures { result ≡ status_of_stop self }
     {

@@ -23,8 +23,8 @@ use tg_script::{Collector, Count, OfRead, OfWrite, Sink, Source, Unwatched};
 /// How many bytes are read, and how many are written, at once.
 pub(crate) const BLOCK: usize = 65536;
 
-/// A run that is over: its reader with what is left, its writer with what was written, how it ended, with its exit
-/// status, and why a line was bad, where that was asked for.
+/// A run that is over. It has the reader with the bytes that are left, and the writer with the bytes that were written.
+/// It also has the end of the run with its exit status, and the reason why a line was bad, if it was asked for.
 #[derive(Drop)]
 pub(crate) struct Ended<R: Drop, W: Drop> {
     pub reader: R,
@@ -36,8 +36,8 @@ pub(crate) struct Ended<R: Drop, W: Drop> {
 }
 
 impl<R: Drop, W: Drop> Ended<R, W> {
-    /// The exit status of a run to the end of its script, or how the run ended before, and why a line was bad, where
-    /// that was asked for.
+    /// The exit status of a run to the end of its script, or the fault that ended the run before. With the fault comes
+    /// the reason why a line was bad, if it was asked for.
     pub(crate) fn into_outcome(self) -> Result<u8, Failure>
         ensures status { IfOk result (λ status. status ≡ self.status) }
         ensures ended { IsOk result ↔ IsOk self.outcome }
@@ -93,7 +93,7 @@ pub(crate) fn serve_buffered<
     ))
 }
 
-/// What counts how often a reader is asked and fails, and how often a writer fails.
+/// The counters that say how often a reader is asked and fails, and how often a writer fails.
 #[derive(Drop)]
 pub(crate) struct StreamBlanks {
     pub asked: Blank,

@@ -17,16 +17,16 @@ use tg_script::{Helpers, Limits, MOST_HELPERS, Settings};
 use tg_space::MOST_BLOCKS;
 use tg_word::MOST_SPACE_BLOCKS;
 
-/// How many workers there are where the words don't say it.
+/// How many workers there are if the words don't say it.
 pub const DEFAULT_WORKERS: u64 = 2;
 
-/// How many helpers a collection has where the words don't say it.
+/// How many helpers a collection has if the words don't say it.
 pub const DEFAULT_HELPERS: u64 = 1;
 
-/// How many vertices may ever be made where the words don't say it.
+/// How many vertices may ever be made if the words don't say it.
 pub const DEFAULT_VERTICES: u64 = 1_000_000;
 
-/// How many blocks the heap may have where the words don't say it.
+/// How many blocks the heap may have if the words don't say it.
 pub const DEFAULT_BLOCKS: u64 = 4096;
 
 /// Reads the words, the first of which is the program's name. Returns the options that they say, and the defaults of

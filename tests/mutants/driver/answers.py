@@ -1,4 +1,5 @@
-"""The form of the files below a crate's proofs/: answers, each after its goal; lemmas, and holes in their place."""
+"""The form of the files below a crate's proofs/. They have answers, each after its goal, and lemmas, or holes in their
+place."""
 import re
 from collections.abc import Callable
 from textwrap import dedent, indent
@@ -48,8 +49,8 @@ def answered_clauses(text: str) -> set[str]:
 
 
 def with_answers(text: str, is_kept: Callable[[str], bool]) -> str:
-    """The answers of the text to goals that are kept. A lemma that isn't kept goes with all that uses it. What is
-    imported from the goals of the function, and not used any more, goes too: without a clause its paths are gone."""
+    """The answers of the text to goals that are kept. A lemma that isn't kept goes with all that uses it. An import
+    from the goals of the function that isn't used any more goes too, because without a clause its paths are gone."""
     head, *parts = re.split(r"^(?=pub |abbrev |module |[^\s]+ : )", text, flags=re.M)
     gone = [part for part in parts if not all(map(is_kept, names_of(part)))]
     # what is gone grows as it is gone over
@@ -88,7 +89,7 @@ def for_function(text: str, crate: str, path: str, to: str) -> str:
 
 
 def stated(text: str, unfolded: set[str]) -> str:
-    """The text of a file with a hole in the place of each proof but those of lemmas that are unfolded."""
+    """The text of a file with a hole in the place of each proof, except for proofs of lemmas that are unfolded."""
     kept: list[str] = []
     # the lemma whose proof is left out, while its clauses come
     lemma = None
@@ -109,5 +110,5 @@ def stated(text: str, unfolded: set[str]) -> str:
 
 
 def names_unfolded(text: str) -> set[str]:
-    """What the proofs in a text unfold."""
+    """The lemmas that the proofs in a text unfold."""
     return {name for line in re.findall(r"\bunfolding (.+)$", text, re.M) for name in line.split()}

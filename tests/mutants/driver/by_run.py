@@ -51,7 +51,7 @@ def plant_tree(tree: Tree, mutant: Mutant, room: Path) -> Tree:
 
 
 def try_script(tree: Tree, program: str, command: list[str], is_counted: bool = False) -> tuple[Outcome, str]:
-    """What a run of stored scripts finds of the program of the tree, which is built first."""
+    """The faults that a run of stored scripts finds in the program of the tree, which is built first."""
     errors = build_program(tree, program, tree.top, is_counted)
     if errors is not None:
         return Outcome.NOT_JUDGED, f"{program} isn't built: {on_one_line(errors)}"
@@ -59,7 +59,7 @@ def try_script(tree: Tree, program: str, command: list[str], is_counted: bool = 
 
 
 def run_script(command: list[str]) -> tuple[Outcome, str]:
-    """What a run finds that ends in a failure if it finds something."""
+    """The findings of a run that ends in a failure if it finds something."""
     ran = subprocess.run(command, capture_output=True, **QUIETLY)
     said = ran.stdout + ran.stderr
     failed = re.search(FAILURE, said, re.M)
@@ -69,5 +69,5 @@ def run_script(command: list[str]) -> tuple[Outcome, str]:
 
 
 def on_one_line(said: str) -> str:
-    """The end of what was said, on one line."""
+    """The end of the output, on one line."""
     return said[-200:].replace("\n", " ")

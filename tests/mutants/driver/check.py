@@ -14,13 +14,13 @@ from repository.unproved import QUIETLY
 from .answers import ANSWERS, INVARIANTS
 from .source import is_end_of
 
-# The processor seconds that a search may take, and those that a check may take beside its searches.
+# The processor seconds that a search may take, and the seconds that a check may take beside its searches.
 LIMIT, BESIDE = 60, 240
 
-# A function that was checked. What was read before the first is none of its own.
+# A function that was checked. A line that was read before the first isn't its own.
 CHECKED = re.compile(r"checked \w+::(\S+), (?!1 of)")
 
-# The line on a function, and what it says if all goals of the function hold. It may call what isn't proved.
+# The line on a function, and its text if all goals of the function hold. It may call what isn't proved.
 FUNCTION = re.compile(r"^fn \w+::(\S+): (.*)$", re.M)
 PROVED = re.compile(
     r"(?:no holes|proved)$|no proof: it calls `[^;]*$|depends on a hole in (?:`|the same \d+ declarations as `)"
@@ -52,7 +52,7 @@ class FunctionReport:
 
 @dataclass
 class Report:
-    """What a check says. One that isn't whole ended with an error, before it had checked the functions."""
+    """The report of a check. One that isn't whole ended with an error, before it had checked the functions."""
 
     is_whole: bool
     error: str
@@ -60,7 +60,7 @@ class Report:
     seconds: float
 
     def of(self, name: str, clauses: tuple[str, ...] = ()) -> FunctionReport:
-        """What is said of the function with this name, which may be the end of a path, and has these clauses."""
+        """The report on the function with this name, which may be the end of a path, and has these clauses."""
         found = next((function for function in self.functions if is_end_of(name, function.path)), None)
         error = f"the check says nothing of {name}: 'check:' has to name a function" if self.is_whole else self.error
         report = found if found and self.is_whole else FunctionReport(name, False, "", error=error)
@@ -80,7 +80,7 @@ def check(tree: Tree, libraries: Path, crate: str, folder: Path, functions: list
 
 
 def report_of(lines: Iterable[tuple[str, float]]) -> Report:
-    """What the lines of a check say, each with the processor seconds until it came."""
+    """The report in the lines of a check, each with the processor seconds until it came."""
     output, seconds, last = [], {}, 0.0
     for line, now in lines:
         if checked := CHECKED.match(line):
@@ -93,7 +93,7 @@ def report_of(lines: Iterable[tuple[str, float]]) -> Report:
 
 
 def function_report(path: str, line: str, said: str, seconds: dict[str, float]) -> FunctionReport:
-    """What the line on a function says, with the answers to its goals that don't fit."""
+    """The report in the line on a function, with the answers to its goals that don't fit."""
     report = FunctionReport(path, bool(PROVED.match(line)), line, seconds.get(path, 0))
     unproved = line.partition("`search` did not prove ")[2].partition(";")[0]
     report.open_goals += dict.fromkeys(re.findall(r"`([^`]+)`", unproved))
@@ -104,6 +104,6 @@ def function_report(path: str, line: str, said: str, seconds: dict[str, float]) 
 
 
 def first_error(said: str) -> str:
-    """The first line with an error, or else the end of what was said. A library has `thiserror` in its name."""
+    """The first line with an error, or else the end of the output. A library has `thiserror` in its name."""
     errors = (line for line in said.split("\n") if "error" in line and "thiserror" not in line)
     return next(errors, said[-200:])[:200]

@@ -5,7 +5,8 @@ from .verdict import Outcome, try_group
 
 
 def are_controls_right(run: Run) -> bool:
-    """Whether each control comes out as expected. Those that aren't to be judged are tried alone."""
+    """Whether each control comes out as expected. Mutants that aren't to be judged are tried
+    alone."""
     alone = [[control] for control in controls() if control.wanted == Outcome.NOT_JUDGED.value]
     together = [control for control in controls() if [control] not in alone]
     is_right = True

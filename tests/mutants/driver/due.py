@@ -1,7 +1,7 @@
 """Which mutants are due: those whose verdict rests on files that have changed since it was as expected.
 
-What a verdict rests on is one sum. The sums of the verdicts that were as expected are kept beside the toolchain, on
-this machine alone. Nothing is kept in the tree. So all mutants are due on a new machine."""
+The files on which a verdict rests have one sum. The sums of the verdicts that were as expected are kept beside the
+toolchain, on this machine alone. Nothing is kept in the tree. So all mutants are due on a new machine."""
 import hashlib
 from collections.abc import Iterable
 from functools import lru_cache
@@ -23,7 +23,7 @@ class Kept:
         self.folder = folder or home().parent / "kovshenul-mutants"
 
     def due(self, tree: Tree, mutants: Iterable[Mutant]) -> list[Mutant]:
-        """Those of the mutants that have no verdict on the files as they are."""
+        """The mutants that have no verdict on the files as they are."""
         return [mutant for mutant in mutants if not (self.folder / sum_of(tree, mutant)).exists()]
 
     def keep(self, tree: Tree, mutant: Mutant) -> None:
@@ -36,9 +36,9 @@ class Kept:
 
 
 def sum_of(tree: Tree, mutant: Mutant) -> str:
-    """A sum of what the verdict on a mutant rests on. This is the toolchain and this driver, the mutant, and its
-    function with the proof. It is also the lemmas of its crate, and what this crate and the crates below state. Bodies
-    of other functions don't count."""
+    """A sum of the files on which the verdict on a mutant rests. This is the toolchain and this driver, the mutant,
+    and its function with the proof. It is also the lemmas of its crate, and what this crate and the crates below
+    state. Bodies of other functions don't count."""
     folder, copy = tree.folder(mutant.crate), copy_of(tree, mutant) if mutant.function else None
     parts = [version_once(), texts_below(Path(__file__).parent, ".py"), read_text(mutant.path)]
     parts += [stated_in(tree, crate) for crate in (*tree.below(mutant.crate), mutant.crate)]

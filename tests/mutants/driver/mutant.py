@@ -67,7 +67,8 @@ class Mutant:
 
 
 class Entry(NamedTuple):
-    """A key of a file with the number of its line, and the parts of its text: lines of source, or parts of one line."""
+    """A key of a file with the number of its line, and the parts of its text. They are lines of source, or parts of one
+    line."""
 
     number: int
     key: str
@@ -124,7 +125,8 @@ def names_in(text: str) -> tuple[str, ...]:
 
 
 class Form(NamedTuple):
-    """What follows a key: the field of a mutant that it is for, its form, how that is told, and what reads it."""
+    """The rule for the text after a key. It has the field of a mutant, the form of the text, a message about the form,
+    and the function that reads it."""
 
     field: str
     form: str

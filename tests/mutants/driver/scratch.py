@@ -18,8 +18,8 @@ NO_SEARCH = "#[tactic(none)]\n"
 
 @dataclass(frozen=True)
 class Trial:
-    """A mutant as it is tried without some of the answers of its function, alone or beside its right function, or the
-    right function in the same way. If it isn't searched, only its answers are checked."""
+    """A mutant as it is tried without some of the answers of its function, alone or beside its right function. It may
+    also be the right function, tried in the same way. If it isn't searched, only its answers are checked."""
 
     mutant: Mutant
     # the goals of these answers
@@ -31,8 +31,8 @@ class Trial:
 
 @dataclass(frozen=True)
 class Standing:
-    """Where a trial is in a scratch copy: the path of its function there, and the clauses that have to refuse it, as
-    its goals name them."""
+    """The place of a trial in a scratch copy. It has the path of its function there, and the clauses that have to
+    refuse it, as its goals name them."""
 
     trial: Trial
     function: str
@@ -50,8 +50,8 @@ class Copy:
 
 @lru_cache(maxsize=None)
 def copy_of(tree: Tree, mutant: Mutant) -> Copy | None:
-    """What a copy of the function needs, if the function is all that the mutant changes, and doesn't call itself. A
-    function of a trait's `impl` has no copy."""
+    """The parts that a copy of the function needs, if the function is all that the mutant changes, and doesn't call
+    itself. A function of a trait's `impl` has no copy."""
     files = {edit.file for edit in mutant.edits}
     there = functions_of(tree.source(mutant.crate))
     found = [one for one in there if is_end_of(mutant.function, one.path)]
@@ -105,7 +105,8 @@ def plant_in_place(tree: Tree, folder: Path, trial: Trial) -> None:
 
 
 def keep_answers(path: Path, aside: frozenset[str], left_out: set[str]) -> None:
-    """Takes answers away from a file of a function's proof: those set aside, and those to clauses that are left out."""
+    """Takes answers away from a file of a function's proof. They are answers that were set aside, and answers to
+    clauses that are left out."""
     if path.name != PROOF:
         kept = with_answers(read_text(path), lambda goal: goal not in aside and named_ensures(goal) not in left_out)
         write_text(path, kept)
@@ -113,7 +114,7 @@ def keep_answers(path: Path, aside: frozenset[str], left_out: set[str]) -> None:
 
 def with_proof(tree: Tree, folder: Path, trial: Trial, copy: Copy, number: int) -> tuple[list[str], Standing]:
     """The lines of a copy of a function, and where it is. Its proof is put into the folder. The copy has only the
-    clauses that have to refuse the mutant: the others aren't searched for."""
+    clauses that have to refuse the mutant. The others aren't searched for."""
     mutant, function = trial.mutant, copy.function
     name = f"{function.name}_{number}"
     path = "::".join([*function.path.split("::")[:-1], name])
@@ -133,9 +134,10 @@ def with_proof(tree: Tree, folder: Path, trial: Trial, copy: Copy, number: int) 
 
 
 def take_by_contract(folder: Path, crate: str, checked: list[str], copies: dict[str, list[list[str]]]) -> None:
-    """Leaves the contract of each function of the crate in the folder that isn't checked: a hole stands in the place of
-    its proof, since `--only` proves what a function calls, too, and nothing that runs in its body. A function of a
-    trait's `impl`, and one that calls itself, keeps both. Puts the copies of a function after it."""
+    """Leaves the contract of each function of the crate in the folder that isn't checked. A hole is in the place of its
+    proof. The reason is that `--only` also proves the functions that a function calls, and nothing that runs in its
+    body. A function of a trait's `impl`, and one that calls itself, keeps both. Puts the copies of a function after
+    it."""
     there = functions_of(folder / "src")
     for function in sorted(there, key=lambda function: function.first, reverse=True):
         file = folder / "src" / function.file
@@ -152,8 +154,8 @@ def take_by_contract(folder: Path, crate: str, checked: list[str], copies: dict[
 
 
 def take_by_statement(proofs: Path) -> None:
-    """Puts a hole in the place of the proof of each lemma below a folder, but for those that a proof unfolds. What
-    answers a function's goals stays."""
+    """Puts a hole in the place of the proof of each lemma below a folder, except for lemmas that a proof unfolds. The
+    answers to a function's goals stay."""
     texts = {file: read_text(proofs / file) for file in files_below(proofs, ".antt")}
     unfolded = {name for text in texts.values() for name in names_unfolded(text)}
     for file, text in texts.items():

@@ -1,5 +1,5 @@
-"""The functions of a crate as they are in its files, by the paths that the checker has for them and for the folders
-of their proofs, and the parts of a function's text."""
+"""The functions of a crate in its files, and the parts of a function's text. A function is named by the path that the
+checker has for it and for the folder of its proofs."""
 import re
 from collections.abc import Iterator
 from dataclasses import dataclass
@@ -100,9 +100,9 @@ def head_in(lines: list[str]) -> tuple[int, str]:
 
 
 def with_clauses(lines: list[str], wanted: tuple[str, ...], answered: set[str]) -> tuple[list[str], set[str], str]:
-    """The lines of a function with those of its `ensures` that are wanted, the names of the others, and the clause that
-    is left if it is the only one. The goals of an only clause don't name it. So that its answers still do, another one
-    is kept with it."""
+    """The lines of a function with the requested `ensures`, and the names of the others. With them comes the clause
+    that is left, if it is the only one. The goals of an only clause don't name it. So that its answers still name it,
+    another clause is kept with it."""
     first, indent = head_in(lines)
     end = next((number for number in range(first, len(lines)) if lines[number] == indent + "{"), first + 1)
     # the parts of the contract, each with the name of its clause if it is an `ensures`

@@ -30,13 +30,13 @@ def public_clauses(text: str) -> Iterator[tuple[str, str]]:
             function = ""
 
 
-# The mutants that break a clause, by crate, the last name of the function, and the clause: each with the function as it
-# is named, and the mutant.
+# The mutants that break a clause, by crate, the last name of the function, and the clause. Each comes with the function
+# as it is named, and the mutant.
 Broken = dict[tuple[str, str, str], list[tuple[str, str]]]
 
 
 def broken_by(mutants: Iterable[Mutant]) -> Broken:
-    """The mutants by the clauses that refuse them, and by the public ones that are proved from these."""
+    """The mutants by the clauses that refuse them, and by the public clauses that are proved from these clauses."""
     broken: Broken = {}
     for mutant in mutants:
         clauses = [(mutant.crate, mutant.function, clause, "") for clause in mutant.clauses]
@@ -49,7 +49,8 @@ def broken_by(mutants: Iterable[Mutant]) -> Broken:
 
 
 def table_of(tree: Tree, mutants: Iterable[Mutant]) -> str:
-    """The text of the table. A clause without a mutant isn't weak for that: a clause above may be proved from it."""
+    """The text of the table. A clause without a mutant isn't weak for that reason, because a clause above may be proved
+    from it."""
     mutants = list(mutants)
     broken, lines = broken_by(mutants), []
     for crate in tree.crates:
@@ -61,7 +62,8 @@ def table_of(tree: Tree, mutants: Iterable[Mutant]) -> str:
 
 
 def clauses_of(tree: Tree, crate: str) -> Iterator[tuple[str, str]]:
-    """The clauses of the public functions of a crate, each once. No mutant can break a law: laws are left out."""
+    """The clauses of the public functions of a crate, each once. Laws are left out, because no mutant can break a
+    law."""
     source = tree.source(crate)
     for file in files_below(source, ".rt"):
         if file.rpartition("/")[2] != "laws.rt":

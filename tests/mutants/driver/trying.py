@@ -17,14 +17,15 @@ from .verdict import Outcome, Verdict, groups_of, try_group
 
 # The processor seconds of a run that is limited, and how many mutants it checks together.
 LIMIT, MOST = 600, 16
-# What fails a run, the worst first.
+# The verdicts that fail a run, the worst first.
 UNWANTED = (Outcome.PROVED, Outcome.ELSEWHERE, Outcome.NOT_FOUND, Outcome.NOT_JUDGED)
 
 
 @dataclass
 class Run:
     """A run over a tree, whose built libraries are in a folder, with so many checks at a time. If it is limited, it
-    tries what is due, and begins a group only if as many processor seconds are left as the dearest group took."""
+    tries the mutants that are due. It begins a group only if as many processor seconds are left as the dearest
+    group took."""
 
     tree: Tree
     libraries: Path
@@ -39,7 +40,7 @@ class Run:
         return seconds_of_children() - self.began
 
     def check(self, crate: str, folder: Path, functions: list[str]) -> Report:
-        """What the prover says of these functions of the crate in the folder."""
+        """The prover's report on these functions of the crate in the folder."""
         return check(self.tree, self.libraries, crate, folder, functions)
 
     def try_mutants(self, kept: Kept, mutants: list[Mutant]) -> bool:

@@ -13,18 +13,19 @@ from .check import LIMIT, FunctionReport, Report
 from .mutant import Mutant
 from .scratch import Trial, copy_of, has_answers, plant
 
-# What a mutant may name in the place of the answers that don't fit it: any of them.
+# The word that a mutant may name in the place of the answers that don't fit it, for any of them.
 ANY = ("any",)
 
 # How often a mutant is checked, each time without the answers that didn't fit the last time.
 ROUNDS = 4
 
-# What checks functions of a crate in a folder: `check.check` over libraries of a tree, or a test's output.
+# A function that checks functions of a crate in a folder. It is `check.check` over libraries of a tree, or a test's
+# output.
 Check = Callable[[str, Path, list[str]], Report]
 
 
 class Outcome(Enum):
-    """What became of a mutant."""
+    """The verdict on a mutant."""
 
     REFUSED = "refused"
     FOUND = "found"
@@ -36,7 +37,7 @@ class Outcome(Enum):
 
 @dataclass(frozen=True)
 class Verdict:
-    """What became of a mutant, and why."""
+    """The verdict on a mutant, and its reason."""
 
     mutant: Mutant
     outcome: Outcome
@@ -66,8 +67,8 @@ def groups_of(tree: Tree, mutants: Iterable[Mutant], most: int) -> list[list[Mut
 
 def try_group(tree: Tree, check: Check, mutants: list[Mutant]) -> list[Verdict]:
     """The verdicts on mutants of one crate. First the answers of functions are checked. Then a mutant is searched
-    without those that don't fit, beside its right function without the same ones. That the search finds no proof says
-    something only if it finds that of the right function."""
+    without the answers that don't fit, beside its right function without the same answers. That the search finds no
+    proof says something only if it finds that of the right function."""
     verdicts: list[Verdict] = []
     trials = [Trial(mutant, is_searched=not has_answers(tree, mutant)) for mutant in mutants]
     for rounds_left in reversed(range(ROUNDS)):
@@ -88,7 +89,7 @@ def try_group(tree: Tree, check: Check, mutants: list[Mutant]) -> list[Verdict]:
 
 
 def key_of(trial: Trial) -> tuple[object, ...]:
-    """What two trials share if their right functions are one."""
+    """The key that two trials share if their right functions are one."""
     return trial.mutant.function, trial.mutant.clauses, trial.aside
 
 
@@ -103,7 +104,7 @@ def checked_apart(tree: Tree, check: Check, trials: list[Trial]) -> dict[Trial, 
 
 
 def checked(tree: Tree, check: Check, trials: list[Trial]) -> dict[Trial, FunctionReport]:
-    """What a check says of each of these trials. If it doesn't reach its end, the halves are tried."""
+    """The report of a check on each of these trials. If it doesn't reach its end, the halves are tried."""
     with tempfile.TemporaryDirectory(prefix="mutants-") as room:
         folder, standing = plant(tree, Path(room), trials)
         report = check(trials[0].mutant.crate, folder, [stands.function for stands in standing])
@@ -114,7 +115,7 @@ def checked(tree: Tree, check: Check, trials: list[Trial]) -> dict[Trial, Functi
 
 
 def judged(trial: Trial, report: FunctionReport, right: FunctionReport | None) -> tuple[Outcome, str]:
-    """What becomes of a mutant, and why, by what is said of it and of the right function."""
+    """The verdict on a mutant, and its reason, by the reports on it and on the right function."""
     if report.error or report.misfits - trial.aside:
         return Outcome.NOT_JUDGED, report.error or f"more and more of its answers don't fit: {report.said[:200]}"
     if report.holds:

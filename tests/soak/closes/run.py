@@ -2,8 +2,8 @@
 """run.py: how many instructions a close takes with 10,000 sessions and with 100,000, and whether the second is at most 15 times the first.
 
 It builds the program beside it (`main.rt.in`), unproved, with the crates that it needs. One worker spawns so many subjects, who retire, and
-the sessions are put in no order. What a run with a close counts more than one without is the close's, with the drop of the sessions and of
-the store in both. It needs valgrind and a C compiler."""
+the sessions are put in no order. The count of a close is the difference of a run with a close and a run without. Both drop the sessions and
+the store. It needs valgrind and a C compiler."""
 import argparse
 import sys
 import tempfile

@@ -21,8 +21,8 @@ impl Draw {
     }
 }
 
-// rows[c][x]: the vertices over which x has the letter c, a bit each. Names are written so far apart: those between are
-// of vertices without edges, so that the program beside it numbers those that there are.
+// rows[c][x] has the vertices over which x has the letter c, a bit each. Names are written so far apart. Names between them are of
+// vertices without edges, so that the program beside it numbers the vertices that there are.
 #[derive(Clone)]
 struct Graph {
     apart: usize,
@@ -215,7 +215,7 @@ impl Graph {
     }
 }
 
-// The turns without the one at a place, with the names that are made then. None if another turn names what it made.
+// The turns without the turn at a place, with the names that are made then. None if another turn names what it made.
 fn without(apart: usize, made: usize, turns: &[String], at: usize) -> Option<Vec<String>> {
     let makes = |line: &String| line.contains(" create ") || line.contains(" spawn ");
     let gone = makes(&turns[at]).then(|| written(apart, made, made + turns[..at].iter().filter(|line| makes(line)).count()));
@@ -266,7 +266,7 @@ fn leads_within(graph: &Graph, q: &Question, most: usize) -> bool {
     false
 }
 
-// Whether x could hold it, by the closure; a name that isn't made yet is the first object of one who acts.
+// Whether x could hold it, by the closure. A name that isn't made yet is the first object of a subject that acts.
 fn could(graph: &Graph, closed: &Graph, first_objects: &[usize], q: &Question) -> bool {
     if q.x == q.y {
         return false;

@@ -1,17 +1,19 @@
 #!/usr/bin/env python3
 """Asks tgcould about random scripts, and holds its answers against a plain program: questions.py [SEED [SCRIPTS]]
 
-A script has 2 to 4 workers and up to 14 lines; of each graph that one leaves some twenty questions are asked, with random silent
+A script has 2 to 4 workers and up to 14 lines. Some twenty questions are asked of the graph that it leaves, with random silent
 subjects, and edges that are only supposed. Up to 130 names are left, and some questions are about names that aren't made yet. The
-plain program makes objects and a subject for each who acts and does all takes and grants to the end, by the rules written out here.
-Whoever holds a right then could; whoever doesn't never does. Each witness is run after its script by these rules, and by tgstore,
-which has to list the right where x is an active subject. Names more may be wanted only where names are short. tgcould answers
-about the history that tgstore writes of the script as about the script. The programs are those that 'rt run' built."""
+plain program makes objects and a subject for each subject that acts. Then it does all takes and grants to the end, by the rules
+written out here. Whoever holds a right then could hold it, and nobody else ever does. Each witness is run after its script by these
+rules, and by tgstore, which has to list the right if x is an active subject. A witness may need more names only if names are short.
+The answers about the history that tgstore writes of the script have to be the answers about the script, but for the lines of a
+witness. The programs are the programs that 'rt run' built."""
 
 import argparse
 import random
 import subprocess
 import sys
+from collections import Counter
 from pathlib import Path
 
 sys.dont_write_bytecode = True
@@ -78,8 +80,8 @@ class Graph:
         return True
 
     def closed(self, silent):
-        """The graph after all takes and grants of those who act, one object of each, and another object of each; `made` is that of
-        the first graph."""
+        """The graph after all takes and grants of the subjects that act, with one object of each, and another object of each. `made`
+        is the number of the first graph."""
         graph = self.copy()
         actors, objects, others = self.subjects - silent, [], []
         moving = set(actors)
@@ -166,7 +168,7 @@ def random_questions(rnd, graph):
 
 
 def is_short(graph, x, y):
-    """Whether a question may be answered with names more: y was made, and fewer than 64 names are left, or 64 with x."""
+    """Whether the answer to a question may need more names. Then y was made, and fewer than 64 names are left, or 64 with x."""
     left = graph.limit - graph.made
     return y < graph.made and (left < 64 or graph.made <= x < graph.limit and left < 65)
 
@@ -194,25 +196,37 @@ class Checker:
         return words + (["--stock", f"c{boxes}"] if boxes else [])
 
     def answers(self):
-        """Each answer: its word, and the lines after it."""
+        """Each answer, with its question, its word, and the lines after it."""
         asked = [word for name in sorted(self.silent) for word in ("--silent", str(name))]
         asked += [word for edge in self.supposed for word in ("--as-if", edge)] + [word for text in self.asked for word in ("--ask", text)]
         words = self.words(TGCOULD, self.graph.limit, self.boxes) + asked
         ran = subprocess.run(words, input=self.text([]), capture_output=True, text=True, check=False)
         assert ran.returncode == 0, (words, ran.stderr, self.text([]))
-        self.check_history(asked, ran.stdout)
-        for text, answer in zip(self.asked, ran.stdout.split("\n\n"), strict=False):
+        answers = self.parts(ran.stdout)
+        self.check_history(asked, answers)
+        return answers
+
+    def parts(self, output):
+        """Each answer of an output, with its question, its word, and the lines after it."""
+        parts = []
+        for text, answer in zip(self.asked, output.split("\n\n"), strict=False):
             head, _, rest = answer.partition("\n")
             assert head.startswith(text + ": "), (head, text)
-            yield text, head[len(text) + 2:], rest.splitlines()
+            parts.append((text, head[len(text) + 2:], rest.splitlines()))
+        return parts
 
     def check_history(self, asked, answers):
-        """Asks the same about the history that tgstore writes of the script."""
+        """Asks the same about the history that tgstore writes of the script. Each answer has the same word. Lines that differ have
+        to give the right too."""
         words = [*self.words(TGSTORE, self.graph.limit, self.boxes), "--entries"]
         history = subprocess.run(words, input=self.text([]), capture_output=True, text=True, check=True).stdout
         words = self.words(TGCOULD, self.graph.limit, 0) + asked
         ran = subprocess.run(words, input=history, capture_output=True, text=True, check=False)
-        assert (ran.returncode, ran.stdout) == (0, answers), (words, ran.stderr, history)
+        assert ran.returncode == 0, (words, ran.stderr, history)
+        for (text, word, lines), (_, other, others) in zip(answers, self.parts(ran.stdout), strict=True):
+            assert other == word, (text, word, other, words, history)
+            if others != lines:
+                self.check_one(text, other, others, Counter())
 
     def text(self, more):
         return "".join(line + "\n" for line in [*self.lines, *more])
@@ -238,8 +252,8 @@ class Checker:
         assert told == len(self.asked), (told, self.asked)
 
     def listed(self, asked):
-        """The names that a star may represent, beside how each is written: those that were made, and as `new` one that is made later
-        and isn't asked about."""
+        """The names that a star may represent, beside how each is written. They are the names that were made, and `new` for a name
+        that is made later and isn't asked about."""
         made = self.graph.made
         return [*((name, str(name)) for name in range(made)), (made + 1 if asked == made else made, "new")]
 

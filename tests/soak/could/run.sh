@@ -1,9 +1,10 @@
 #!/bin/sh
-# run.sh [SEED [GRAPHS]]: holds could_hold against a closure written apart, over random graphs of 2 to 6 vertices with
-# silent sets (200,000 of them, twelve questions each), and replays each witness by rules written apart. No turn of a
-# witness may be one that can be left out alone, and no witness may have more turns than up to three takes and grants
-# of one right each that do the same. who_could, what_could, a View and needs have to answer as could_hold does. It
-# proves, builds and runs the program beside it in a temporary folder.
+# run.sh [SEED [GRAPHS]]: compares could_hold with a closure written apart, and replays each witness by rules written
+# apart. The graphs are random, with 2 to 6 vertices and silent sets, and there are 200,000 of them with twelve
+# questions each. If a turn of a witness can be left out alone, the script fails. It also fails if up to three takes
+# and grants of one right each do the same as a witness with more turns. The functions who_could, what_could and
+# needs, and a View, have to answer as could_hold does. It proves, builds and runs the program beside it in a
+# temporary folder.
 set -eu
 here=$(cd "$(dirname "$0")" && pwd)
 seed=${1:-1}

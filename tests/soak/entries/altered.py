@@ -1,10 +1,10 @@
 #!/usr/bin/env python3
 """Tries the built tgaudit on texts of histories, whole and altered: tests/soak/entries/altered.py [SEED [TEXTS]]
 
-Of each random legal history the text is handed in as it is, which must pass, and then once for each kind of alteration: a reply, a worker, a name,
-two lines swapped, one lost, one twice, the end cut. plain.py says by the rules of the plain model what is wrong with each, which is what tgaudit
-has to say: the number of the first line at fault, and why. An alteration that leaves the text that of a legal history, as two reads that change
-places, has to pass. Counts how many were found."""
+The text of each random legal history is handed in as it is, which must pass, and then once for each kind of alteration. An alteration
+changes a reply, a worker or a name, swaps two lines, loses a line, has a line twice, or cuts the end. The module plain.py says by the rules
+of the plain model which line is the first at fault, and why. The program has to say the same. After some alterations, as two reads that
+change places, the text is still the text of a legal history. Then it has to pass. Counts how many were found."""
 import argparse
 import random
 import re
@@ -94,7 +94,7 @@ KINDS = [a_reply, a_worker, a_name, two_swapped, one_lost, one_twice, the_end_cu
 
 
 def try_text(text, about):
-    """What tgaudit says of the text, which must be what the rules say."""
+    """The verdict of tgaudit on the text, which must be the verdict of the rules."""
     ran = subprocess.run([PROGRAM], input=text.encode(), capture_output=True, timeout=60)
     # A second line says what the line has to be.
     said, wanted = (ran.stdout + ran.stderr).decode().splitlines(keepends=True)[0], judge(text)

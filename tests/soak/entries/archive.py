@@ -1,11 +1,11 @@
 #!/usr/bin/env python3
 """Tries the built tgaudit on archives in parts: tests/soak/entries/archive.py [SEED [ENTRIES]]
 
-A random legal history is cut into 20 parts. The head of each next part is what tgaudit --snapshot prints for the part before, and the archive has
-the head after its last part too. 20 runs of tgaudit side by side audit the parts, and 19 runs with --after compare the sums.
+A random legal history is cut into 20 parts. The head of each next part is the output of tgaudit --snapshot for the part before. The archive
+has the head after its last part too. Then 20 runs of tgaudit side by side audit the parts, and 19 runs with --after compare the sums.
 
-Then each byte of a small archive of three parts is altered, once. The alteration has to be found by the run of its part, by the head that the run
-prints, or by the head that the run of the part before printed. Counts how many were found by each, and how many by the sum alone."""
+Then each byte of a small archive of three parts is altered, once. The run of its part has to find the alteration, or the head that this run
+prints, or the head that the run of the part before printed. Counts how many were found by each, and how many by the sum alone."""
 import argparse
 import random
 import subprocess
@@ -41,7 +41,7 @@ entries 9
 
 
 def audit(text, *words):
-    """The status of tgaudit on this text, and what it prints."""
+    """The status of tgaudit on this text, and its output."""
     ran = subprocess.run([PROGRAM, *words], input=text, capture_output=True, timeout=60, check=False)
     return ran.returncode, ran.stdout
 
@@ -93,7 +93,7 @@ def found(archive, at, altered):
 
 
 def try_altered(archive):
-    """Alters each byte of the archive, once. How many alterations were found by what."""
+    """Alters each byte of the archive, once. How many alterations each means has found."""
     places = [(at, place) for at, part in enumerate(archive) for place in range(len(part))]
 
     def one(where):

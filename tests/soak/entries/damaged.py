@@ -1,10 +1,11 @@
 #!/usr/bin/env python3
 """Tries the built tgaudit on kept files that were damaged: tests/soak/entries/damaged.py [--program PROGRAM]
 
-The files are those of tests/runs/kept.py: one of a run that was closed, and one of a run that wasn't. Each is cut at each of its
-bytes, and each of its bits is flipped. In the file of the run that wasn't closed each byte of the last batch is also a zero, alone and
-with all after it. A plain reader of lines says what tgaudit has to print of each file: how many entries and batches, the last line,
-how the run ended, and the line and the byte of a damage. --front has to write the whole lines of every hundredth file."""
+The files are the files of tests/runs/kept.py. One is of a run that was closed, and one of a run that wasn't. Each is cut at each of
+its bytes, and each of its bits is flipped. In the file of the run that wasn't closed each byte of the last batch is also a zero, alone
+and with all after it. A plain reader of lines says what tgaudit has to print of each file. It prints how many entries and batches
+there are, the last line, how the run ended, and the line and the byte of a damage. With --front it has to write the whole lines of
+every hundredth file."""
 import argparse
 import subprocess
 import sys
@@ -40,7 +41,7 @@ def lines_of(file: bytes) -> tuple[list[bytes], bool]:
 
 
 def judged(name: str, file: bytes) -> tuple[list[str], str]:
-    """What tgaudit has to print of a file on standard output, and how the first line on standard error begins."""
+    """The standard output that tgaudit has to print of a file, and how the first line on standard error begins."""
     whole, is_damaged = lines_of(file)
     texts, at = [it[:-10] for it in whole], sum(len(it) + 1 for it in whole)
     place = f"line {len(whole) + 1}, at byte {at}, "

@@ -1,5 +1,5 @@
-"""plain.py: the plain rules over the text of a history. A history is written of random deeds, and a text is judged: which of its lines is
-the first at fault, and why. The rules are those of the model in Python's package. They need no library for C."""
+"""plain.py: the plain rules over the text of a history. It writes a history of random deeds, and judges a text. It says which line of the
+text is the first at fault, and why. The rules are the rules of the model in Python's package. They need no library for C."""
 import random
 import re
 import sys
@@ -33,7 +33,7 @@ DEEDS = {
 
 
 class Bad(Exception):
-    """The first line at fault, by its number, and what tgaudit says of it."""
+    """The first line at fault, by its number, and the message of tgaudit on it."""
 
     def __init__(self, line: int, why: str):
         super().__init__(f"line {line}: {why}")
@@ -76,7 +76,7 @@ def denial_of(why: Denial) -> str:
 
 
 def answer(graph: Graph, x: int, rule: str, words: List[str]) -> str:
-    """What the rules answer. The graph becomes the next one."""
+    """The answer of the rules. The graph becomes the next one."""
     asked = [int(it) if it.isdigit() else read_value(it) or rights_of(it) for it in words]
     try:
         answered = getattr(graph, rule)(x, *asked)
@@ -176,7 +176,7 @@ class Audit:
 
 
 def judge(text: str) -> str:
-    """What tgaudit has to say of the text."""
+    """The message that tgaudit has to print on the text."""
     audit = Audit()
     try:
         for line in re.findall(r"[^\n]*\n|[^\n]+", text):

@@ -1,8 +1,9 @@
 #!/usr/bin/env python3
 """Has the built tgaudit audit what tgstore answers to the stored scripts: tests/soak/entries/stored.py
 
-Of each row of tests/runs/scripts the text of its history is put together out of the lines, the replies that are stored, and the boxes of its stock. It
-must pass. A collection has no entry, and neither has a line that was refused, but for lack of vertices or of room for a subject."""
+The text of the history of each row of tests/runs/scripts is put together. It is made of the lines, the stored replies, and the boxes of the
+stock. It must pass. A collection has no entry, and neither has a line that was refused, but for lack of vertices or of room for a
+subject."""
 import argparse
 import re
 import subprocess
@@ -22,7 +23,7 @@ NO_ENTRY = re.compile(r"refused (memory|heap|stock|threads|worker)\n")
 
 
 def history_of(row: Row) -> tuple[str, int]:
-    """The text of the history that a row's script and its replies tell."""
+    """The text of the history of a row's script and its replies."""
     said = dict(zip(row.words[::2], row.words[1::2]))
     workers, limit = int(said.get("--workers", 2)), int(said.get("--vertices", 1_000_000))
     boxes = [NEW[kind] for kind, count in re.findall(r"([csml])([0-9]*)", said.get("--stock", "")) for _ in range(int(count or 1))]

@@ -11,7 +11,7 @@ enum { RUNNING = 60, ROUNDS = 16, HOLDER = 0, WATCHED = 1 };
 static uint64_t secret, started, turns;
 static uint64_t workers[RUNNING];
 
-/* Makes the secret, which one of the plug-ins may read, and another one never. */
+/* Makes the secret, which one of the plug-ins may read, and another plug-in never. */
 static void make_secret(void) {
     const tg_value value = { TG_CELL, 0, 4242 };
     must(make_room() ? TG_DONE : TG_OUT_OF_MEMORY, "room for a resource");
@@ -34,7 +34,7 @@ static void start(const char *script, int number) {
     }
 }
 
-/* Whether the one that is watched holds no right to read the secret. */
+/* Whether the plug-in that is watched holds no right to read the secret. */
 static bool is_rule_kept(void) {
     uint64_t rights;
     return workers[WATCHED] == NONE || tg_label(&store, workers[WATCHED], secret, &rights) != TG_DONE || !(rights & TG_READ);

@@ -1,8 +1,8 @@
 /* A large store that lacks memory, through the library for C: large VERTICES REFUSED SEED
 
-   64 workers make the vertices in turn. Some are granted to the next worker, written, or given up. The heap is collected 64 times,
-   four times in full. The first run counts the requests for memory. In the second run REFUSED of them are refused: half are drawn
-   from all requests, and half from those for 64 KiB and more.
+   64 workers make the vertices in turn. Some are granted to the next worker, written, or given up. The heap is collected 64
+   times, four times in full. The first run counts the requests for memory. In the second run REFUSED of them are refused. Half
+   are drawn from all requests, and half from the requests for 64 KiB and more.
 
    If a call returns TG_OUT_OF_MEMORY, the census must be as it was before the call. So must the labels of 100,000 vertices that are
    drawn by chance, which are compared with a plain table. Then the call is made again. In the end all vertices are compared and read,
@@ -184,7 +184,7 @@ static void collect_some(void) {
         ask(made / part % 16 == 15 ? FULL : MINOR);
 }
 
-/* Looks at each vertex, and reads those that their makers may read. */
+/* Looks at each vertex, and reads the vertices that their makers may read. */
 static void compare_all(void) {
     for (made = 0; made < vertices; made++) {
         compare(made);

@@ -1,10 +1,10 @@
 #!/usr/bin/env python3
 """large.py [VERTICES] [REFUSED] [SEED]
 
-Refuses requests for memory of a large store, through the library for C that bindings/build has made (large.c): 50 of those of a
-run with 10,000,000 vertices, unless other numbers are given. Each refused call must return TG_OUT_OF_MEMORY and leave the store
-as it was, or be served all the same. It prints what was refused, and ends with status 1 at the first answer that is wrong. It
-needs a C compiler, and 3 GB for 10,000,000 vertices."""
+Refuses requests for memory of a large store, through the library for C that bindings/build has made (large.c). It refuses 50 of
+the requests of a run with 10,000,000 vertices, unless other numbers are given. Each refused call must return TG_OUT_OF_MEMORY
+and leave the store as it was, or be served all the same. It prints the refused requests, and ends with status 1 at the first
+answer that is wrong. It needs a C compiler, and 3 GB for 10,000,000 vertices."""
 import argparse
 import os
 import subprocess

@@ -1,10 +1,11 @@
 #!/usr/bin/env python3
 """limits.py [PROGRAM]
 
-Runs the program under limits of its address space from 3 to 64 MB, on three scripts, and with each of --helpers and --race that it
-knows. It must not be ended by a signal. It ends in status 1 with one line on standard error and no reply, or it answers each line,
-some of them `refused memory`, and the others as if these were not in the script. It prints how many runs there were of each kind,
-and stops at the first that is neither. PROGRAM is crates/tgstore/out/tgstore unless it is given."""
+Runs the program under limits of its address space from 3 to 64 MB. There are three scripts, with each of --helpers and --race that
+the program knows. A signal must not end it. Either it ends in status 1 with one line on standard error and no reply. Or it answers
+each line. Then it may answer some lines by `refused memory`, and the others as if these were not in the script. It prints how many
+runs there were of each kind, and stops at the first run of neither kind. PROGRAM is crates/tgstore/out/tgstore unless it is
+given."""
 import argparse
 import resource
 

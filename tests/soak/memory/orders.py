@@ -1,6 +1,7 @@
-"""The take-grant rules once more, in the plainest form, and a search for an order in which a race's lines get the replies that they got.
+"""The take-grant rules once more, in the plainest form. With them comes a search for an order in which a race's lines get the replies
+that they got.
 
-It shares no code with the program. Of a line that was refused memory or a thread it is taken that it wasn't made."""
+It shares no code with the program. A line that was refused memory or a thread counts as not made."""
 
 ORDER = "rwtgaluv"
 
@@ -17,8 +18,8 @@ def missing(rule, x, y, rights, held):
 
 
 class World:
-    """Who is a subject, who has which rights over whom, and what each vertex stores. It is never changed; a line that changes something
-    makes another."""
+    """Who is a subject, who has which rights over whom, and which number each vertex stores. It is never changed, because a line that
+    changes something makes another."""
 
     def __init__(self, rows, states, made, subjects):
         self.rows, self.states, self.made, self.subjects = rows, states, made, subjects
@@ -150,7 +151,7 @@ def boxes_of(stock):
 
 
 def has_order(race):
-    """Whether there is an order in which each line gets its reply; None where the search was cut short."""
+    """Whether there is an order in which each line gets its reply, or None if the search was cut short."""
     steps, seen = 0, set()
     open_ = [(tuple(0 for _ in race.workers), race.first)]
     while open_:
@@ -181,7 +182,7 @@ def told_at_once(race, at, world, steps):
 
 
 def changes(race, at, world):
-    """What comes of each worker's next line, where it changes something and gets its reply here."""
+    """The outcome of each worker's next line, if it changes something and gets its reply here."""
     for x in race.workers:
         if at[x] < len(race.own[x]):
             words, wanted, box = race.own[x][at[x]]

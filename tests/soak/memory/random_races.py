@@ -1,10 +1,10 @@
 #!/usr/bin/env python3
 """random_races.py [--program FILE] [--races N] [--seed N] [--stay]
 
-Runs random races, 1,000 unless another number is given: scripts of 1 to 8 workers, some of whose lines spawn, retire, name nobody who has a
-thread, or lack a box. Of each output what_is_wrong of runs.py is asked: whether there is an order of the lines in which each gets its
-reply, and each line of a name without a thread is told `refused worker`. In ten of the outputs a wrong reply is then planted, and has to be
-found. With --stay no script has a retire or a name without a thread, and nobody may be told `refused worker`.
+Runs random races, 1,000 unless another number is given. They are scripts of 1 to 8 workers. Some of their lines spawn, retire, name nobody
+who has a thread, or lack a box. For each output what_is_wrong of runs.py says whether there is an order of the lines in which each gets its
+reply. Each line of a name without a thread has to be answered `refused worker`. In ten of the outputs a wrong reply is then planted, and
+has to be found. With --stay no script has a retire or a name without a thread, and no line may be answered `refused worker`.
 
 It prints what the races had, and stops at the first that is wrong, with its script. FILE is crates/tgstore/out/tgstore unless it is given."""
 import argparse
@@ -66,7 +66,7 @@ class Scripts:
 # ---- wrong replies, each of which no order allows
 
 def served_behind_its_retire(script, replies):
-    """A line of a worker who retired is told `ok`."""
+    """A line of a worker who retired is answered `ok`."""
     gone = set()
     for at, line in enumerate(script.lines):
         x, _, rest = line.partition(" ")
@@ -78,26 +78,26 @@ def served_behind_its_retire(script, replies):
 
 
 def a_name_given_twice(script, replies):
-    """Two makings are told one name."""
+    """Two makings are answered by one name."""
     made = [at for at, line in enumerate(script.lines) if (" create " in line or " spawn " in line) and replies[at].startswith(b"ok ")]
     return (made[-1], replies[made[0]]) if len(made) > 1 else None
 
 
 def a_number_that_was_not_written(script, replies):
-    """A read is told a number that no line writes."""
+    """A read is answered by a number that no line writes."""
     read = [at for at, line in enumerate(script.lines) if " read " in line and replies[at].startswith(b"ok ")]
     return (read[0], b"ok 1234567") if read else None
 
 
 def a_line_without_a_thread(script, replies):
-    """A line of a name that has no thread is told `ok`."""
+    """A line of a name that has no thread is answered `ok`."""
     workers = int(script.words[1])
     others = [at for at, line in enumerate(script.lines) if " " in line and int(line.split()[0]) >= workers]
     return (others[0], b"ok") if others else None
 
 
 def an_edge_more(script, replies):
-    """A list is told an edge to a vertex that is never made."""
+    """A list is answered by an edge to a vertex that is never made."""
     listed = [at for at, line in enumerate(script.lines) if line.endswith(" list") and replies[at].startswith(b"ok")]
     return (listed[0], replies[listed[0]] + b" 999999:r") if listed else None
 
@@ -106,7 +106,7 @@ WRONGS = [served_behind_its_retire, a_name_given_twice, a_number_that_was_not_wr
 
 
 class Races:
-    """What the races that were run had, and which wrong replies were found."""
+    """The lines of the races that were run, and which wrong replies were found."""
 
     def __init__(self, program, stay):
         self.program, self.stay = program, stay

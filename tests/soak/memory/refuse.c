@@ -1,7 +1,7 @@
-/* Refuses requests of the program that it is loaded into (LD_PRELOAD): those of the numbers that REFUSE_AT gives, from 1 on, as "7",
-   "7,8,12", or "7-" for all from there on. A request is a call for memory, for the start of a thread, or for the attributes that it is
-   started with. What was met is in the file that REFUSE_TELL names, which is there before and has room for it, so that it can be read
-   however the program ended. */
+/* It is loaded into a program (LD_PRELOAD), and refuses requests of the program. It refuses the requests with the numbers in
+   REFUSE_AT, from 1 on, as "7", "7,8,12", or "7-" for all from there on. A request is a call for memory, for the start of a
+   thread, or for the attributes that it is started with. The counts are in the file that REFUSE_TELL names. The file exists
+   before and has room for them, so they can be read however the program ended. */
 #define _GNU_SOURCE
 #include <dlfcn.h>
 #include <errno.h>

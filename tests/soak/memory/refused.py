@@ -1,12 +1,13 @@
 #!/usr/bin/env python3
 """refused.py [--tests FILE] [--alone] [--program FILE] [WORD ..]
 
-Runs each test of tests/soak/memory/tests that has each request refused in turn, and then the program on eight small scripts: once for every request
-that it makes, with that one refused. A request is a call for memory, for the start of a thread, or for its attributes. A test must pass; of the
-program what_is_wrong of runs.py is asked. Where nothing is refused each thread that was started must be joined, and with one thread as much memory
-must be given back as where nothing is refused. Then the program is run with two requests refused, with three, and with all from one on, by each of
-its requests. It prints how many runs there were, and stops at the first run that is wrong. With words, only what has one of them in its name is run.
-It needs cc, and what `rt run` leaves. The tests are proved and built first (tests.sh), unless they are given as built or --alone leaves them out."""
+Runs each test of tests/soak/memory/tests that has each request refused in turn, and then the program on eight small scripts. It runs them
+once for every request that they make, with that request refused. A request is a call for memory, for the start of a thread, or for its
+attributes. A test must pass, and the output of the program is judged by what_is_wrong of runs.py. If nothing is refused, each thread that
+was started must be joined. With one thread as much memory must be given back as if nothing is refused. Then the program is run with two
+requests refused, with three, and with all from one on, by each of its requests. It prints how many runs there were, and stops at the first
+run that is wrong. With words, it runs only the tests and scripts that have one of them in their name. It needs cc, and what `rt run`
+leaves. The tests are proved and built first (tests.sh), unless they are given as built or --alone leaves them out."""
 import argparse
 import collections
 import itertools
@@ -23,7 +24,8 @@ from runs import old_cell_stays_remembered, refused_lines, rows, stop, subjects_
 # The numbers of refuse.c.
 TOLD = struct.Struct("7q")
 
-# Which requests are refused with the one of a number. Of a test it is one, since the call that was refused has to pass when it is made again.
+# Which requests are refused with the request of a number. Of a test it is one, since the call that was refused has to pass when it is made
+# again.
 ONE = {"one": (0,)}
 PLANS = {**ONE, "two": (0, 1), "three": (0, 2, 7), "all from one on": None}
 
@@ -41,7 +43,8 @@ class Refuser:
         subprocess.run(["cc", "-O2", "-fPIC", "-shared", "-o", self.library, source, "-ldl"], check=True)
 
     def environment(self, at, plan):
-        """That of a run in which the request of this number is refused, with those of the plan; none with 0."""
+        """The environment of a run in which the request of this number is refused, with the requests of the plan. With 0 none is
+        refused."""
         with open(self.tell, "wb") as file:
             file.write(bytes(TOLD.size))
         numbers = f"{at}-" if plan is None else ",".join(str(at + behind) for behind in plan)
@@ -68,14 +71,15 @@ def what_is_left(told, whole):
     # A thread that was let go says so at its very end, which the program's own end may cut off.
     if not told.refused and told.started != told.joined:
         return f"of {told.started} threads {told.joined} were joined"
-    # What the C library keeps for the next thread is held too.
+    # The memory that the C library keeps for the next thread is held too.
     if told.held != whole.held and not told.started and not whole.started:
         return f"{told.held} pieces of memory are held at the end, and {whole.held} where nothing is refused"
     return None
 
 
 def try_each(name, refuser, run, plan):
-    """Refuses each request of a run in turn, with those of the plan; `run` answers what is wrong with it and how it ended, given the environment."""
+    """Refuses each request of a run in turn, with the requests of the plan. `run` is given the environment, and returns the fault of the
+    run and how it ended."""
     starts = beside = 0
     ends = collections.Counter()
     whole = None
@@ -121,7 +125,7 @@ def built_tests(folder):
 
 
 def all_runs(tests, program):
-    """Each run that has its requests refused, with its name and what is refused together."""
+    """Each run that has its requests refused, with its name and the requests that are refused together."""
     listed = subprocess.run([tests, "--list"], stdout=subprocess.PIPE, check=True).stdout.decode() if tests else ""
     for test in re.findall(r"[\w:]*refused\w*", listed):
         yield test, of_test(tests, test), ONE

@@ -1,4 +1,4 @@
-"""What refused.py and limits.py share: the scripts, a run of the program, and what of it is right."""
+"""The parts that refused.py and limits.py share. They are the scripts, a run of the program, and the judgement of its output."""
 import os
 import subprocess
 import sys
@@ -15,10 +15,10 @@ PROGRAM = str(Tree().program("tgstore"))
 # How long a run may take, in seconds.
 MOST_SECONDS = 60
 
-# What may be asked of the program beside the words of a script. What it doesn't know is left out.
+# The options that the program may be given beside the words of a script. An option that it doesn't know is left out.
 WAYS = [[], ["--helpers", "2"], ["--helpers", "8"], ["--race"], ["--race", "--helpers", "2"]]
 
-# What a line may be answered that was not run.
+# The answers that a line may have which was not run.
 REFUSALS = {b"refused memory", b"refused threads"}
 
 # Of how many lines a race may be for which an order is looked for.
@@ -133,9 +133,9 @@ def knows(way, program=PROGRAM):
 def what_is_wrong(script, way, run, program=PROGRAM):
     """Why the run isn't one that lack of memory may leave, or None.
 
-    With status 1 one line is on standard error and nothing was answered. With status 0 each line has its reply, and the lines
-    that were not refused are answered as in a run of them alone. Of a race there has to be an order in which they get their replies
-    (orders.py), and its end has their number of entries; of one with many lines, only that each has its reply."""
+    With status 1 one line is on standard error and nothing was answered. With status 0 each line has its reply, and the lines that
+    were not refused are answered as in a run of them alone. For a race there has to be an order in which they get their replies
+    (orders.py), and its end has their number of entries. In a race with many lines each only has to have its reply."""
     if run.status == 1:
         is_told = len(run.faults) == 2 and run.faults[0].startswith(b"tgstore: ") and run.faults[1] == b""
         return None if is_told and run.replies == [b""] else f"status 1, with {run.faults} and {run.replies[:3]}"

@@ -1,7 +1,7 @@
 #!/bin/sh
-# tests.sh FILE: proves, builds and runs the tests beside it (tests/, whose files have `.in` after their names, so that the gate passes over
-# them), with the crates that they need, in a temporary folder, and leaves them as the program FILE, for refused.py. Without FILE it leaves
-# nothing. With what `rt check` keeps of the crates it takes some minutes, and else as long as their proofs.
+# tests.sh FILE: proves, builds and runs the tests beside it, with the crates that they need, in a temporary folder. It leaves them as the
+# program FILE, for refused.py. Without FILE it leaves nothing. The files of the tests have `.in` after their names, so that the gate passes
+# over them. If `rt check` has kept the proofs of the crates, it takes some minutes, and else as long as their proofs.
 set -eu
 here=$(cd "$(dirname "$0")" && pwd)
 top=$(cd "$here/../../.." && pwd)

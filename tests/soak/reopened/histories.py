@@ -1,4 +1,4 @@
-"""Random histories through Python. Each is stopped at some places, where two stores go on from it: one is resumed from the entries, and
+"""Random histories through Python. Each is stopped at some places, where two stores go on from it. One is resumed from the entries, and
 one is reopened from the snapshot of an auditor. Both answer the rest as the first store did, and have its snapshot at the end."""
 import random
 

@@ -1,9 +1,10 @@
-/* Random scripts through the library for C. Each prefix of a script is stopped, and two stores go on from it: one is resumed from the
-   entries, and one is reopened from the snapshot of an auditor. Both take the rest of the script. Each reply has to be that of the
-   first store, and so has the snapshot at the end. Both stores may collect before they go on, and the scripts collect too.
+/* Random scripts through the library for C. Each prefix of a script is stopped, and two stores go on from it. One is resumed from
+   the entries, and one is reopened from the snapshot of an auditor. Both take the rest of the script. Each reply has to be the
+   reply of the first store, and so has the snapshot at the end. Both stores may collect before they go on, and the scripts
+   collect too.
 
-   reopened SEED SCRIPTS FAULT: the fault is 0, or the number of one that is planted into the snapshot from which the second store is
-   reopened. With a fault the program ends with status 3 at the first difference, which was to be found. */
+   reopened SEED SCRIPTS FAULT: FAULT is 0, or the number of a fault that is planted into the snapshot from which the second store
+   is reopened. With a fault the program ends with status 3 at the first difference, which was to be found. */
 #include "kovshenul.h"
 #include <inttypes.h>
 #include <stdio.h>

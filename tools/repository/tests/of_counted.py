@@ -1,4 +1,5 @@
-"""What is counted under valgrind. Without valgrind these tests are left out."""
+"""Tests of the counts under valgrind. Without valgrind these tests are left
+out."""
 import unittest
 
 from ..counted import CountFailed, can_count, counted
@@ -6,7 +7,7 @@ from ..counted import CountFailed, can_count, counted
 
 @unittest.skipUnless(can_count(), "valgrind isn't here")
 class Instructions(unittest.TestCase):
-    """What is counted of a run."""
+    """Tests of the count of a run."""
 
     def test_the_output_comes_with_the_count(self):
         run = counted(["/bin/cat"], b"one\n")

@@ -1,4 +1,4 @@
-"""What is read of the toolchain's last line."""
+"""Tests of the reader of the toolchain's last line."""
 import unittest
 
 from ..kit import last_of
@@ -15,7 +15,7 @@ STOPPED = "src/words.rt:45:50: error[unknown-name]: cannot find value `SPACE_COU
 
 
 class LastLine(unittest.TestCase):
-    """What is read of the last line of a check."""
+    """Tests of the reader of the last line of a check."""
 
     def test_a_whole_crate_is_proved(self):
         last = last_of(WHOLE)

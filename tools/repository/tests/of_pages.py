@@ -1,4 +1,4 @@
-"""What a page owes for its figures and its words."""
+"""Tests of the duties of a page for its figures and its words."""
 import unittest
 
 from ..pages import sections, unintroduced, unsourced

@@ -1,4 +1,4 @@
-"""What is counted of a page's prose."""
+"""Tests of the counts of a page's prose."""
 import unittest
 
 from ..prose import NEGATIONS, Prose
@@ -19,10 +19,10 @@ The first sentence is here. It has `two spans: of code`, and [a link](of/a/page.
 
 
 class ProseOfAPage(unittest.TestCase):
-    """What is a sentence, and which limits a page has."""
+    """Tests of the sentences and of the limits of a page."""
 
     def faults(self, text: str) -> list[str]:
-        """What is above a limit in a page that has this text alone."""
+        """The faults of a page that has this text alone."""
         return list(Prose.of(text).faults())
 
     def test_tables_code_headings_and_quotations_are_left_out(self):

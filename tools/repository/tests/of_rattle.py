@@ -1,4 +1,5 @@
-"""What is read of Rattle sources."""
+"""Tests of the reader of Rattle
+sources."""
 import unittest
 
 from ..rattle import clauses, definitions, functions, head_of, types
@@ -48,7 +49,8 @@ twice n = n + n
 
 
 class Sources(unittest.TestCase):
-    """What is read of a .rt file."""
+    """Tests of the reader of a .rt
+    file."""
 
     def test_parameters_are_counted_with_self(self):
         found = [(it.name, it.parameters) for it in functions(SOURCE)]
@@ -68,7 +70,8 @@ class Sources(unittest.TestCase):
 
 
 class Specs(unittest.TestCase):
-    """What is read of a .antt file."""
+    """Tests of the reader of a .antt
+    file."""
 
     def test_a_definition_has_its_lines(self):
         found = definitions(SPECS)

@@ -1,4 +1,4 @@
-"""What is read of a stored row."""
+"""Tests of the reader of a stored row."""
 import tempfile
 import unittest
 from pathlib import Path
@@ -8,7 +8,8 @@ from ..tree import BadInput
 
 
 class StoredRow(unittest.TestCase):
-    """What is read of the files of a row."""
+    """Tests of the reader of the files of a
+    row."""
 
     def setUp(self):
         room = tempfile.TemporaryDirectory()

@@ -1,4 +1,5 @@
-"""What is read of crates.txt, and of a tree."""
+"""Tests of the reader of crates.txt, and of a
+tree."""
 import tempfile
 import unittest
 from pathlib import Path
@@ -14,7 +15,7 @@ low:
 
 
 class ListOfCrates(unittest.TestCase):
-    """What is read of crates.txt."""
+    """Tests of the reader of crates.txt."""
 
     def setUp(self):
         room = tempfile.TemporaryDirectory()

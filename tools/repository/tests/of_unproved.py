@@ -1,11 +1,13 @@
-"""What is taken out of a module that `rt try` made."""
+"""Tests of the parts that are taken out of a module
+that `rt try` made."""
 import unittest
 
 from ..unproved import without_checks
 
 
 class ModuleThatIsCounted(unittest.TestCase):
-    """What is left of a module of `rt try`."""
+    """Tests of the parts that are left of a module of
+    `rt try`."""
 
     def test_fills_and_checks_are_gone(self):
         kept = ["  %r0 = alloca i64, align 8", "  call void @llvm.memset.p0.i64(ptr %r0, i8 0, i64 16, i1 false)"]

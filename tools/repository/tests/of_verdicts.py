@@ -1,4 +1,4 @@
-"""What is read of the log of the toolchain, and that each of five wrong logs is found."""
+"""Tests of the reader of the toolchain's log. Each of five wrong logs has to be found."""
 import tempfile
 import unittest
 from pathlib import Path
@@ -26,7 +26,7 @@ logic=proved functions=2 axioms=2 sum=0123456789abcdef
 
 
 class Logs(unittest.TestCase):
-    """What is read of a log."""
+    """Tests of the reader of a log."""
 
     def test_parts_and_last_lines(self):
         parts = parts_of(LOG)
@@ -46,7 +46,7 @@ class Logs(unittest.TestCase):
 
 
 class Sources(unittest.TestCase):
-    """What is read of the sources."""
+    """Tests of the reader of the sources."""
 
     def test_unsafe_code(self):
         self.assertEqual(len(UNSAFE.findall("// It owns nothing.\nunsafe impl Send for Past {}\n\nfn safe() {}\n#[unsafe(no_mangle)]\n")), 1)

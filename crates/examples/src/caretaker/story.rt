@@ -64,7 +64,7 @@ const STEPS: [Move; 14] = [
     Move::Read,
 ];
 
-/// What the workers and the document store.
+/// The numbers that the workers and the document store.
 #[derive(Drop)]
 pub struct Boxes<P: Payload> {
     pub caretaker: P,

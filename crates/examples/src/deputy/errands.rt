@@ -60,7 +60,7 @@ fn write<L: Round, P: Payload, R: Wait>(
     is_done(rt, store, session, Command::Write { target, value: 1 })
 }
 
-/// The deputy's part on its thread. It runs the client's errands, with its own rights and with those of its hand.
+/// The deputy's part on its thread. It runs the client's errands, with its own rights and with the rights of its hand.
 pub fn run_errands<L: Round, P: Payload, R: Wait>(
     rt: &R,
     store: &SharedStore<L, P>,

@@ -1,4 +1,5 @@
--- The entry that a record of C may tell of. Where a part tells of none, another represents it: the entry is then told otherwise.
+-- The entry that a record of C may have. If a part of the record is of no entry, another part takes its place. Then the entry has
+-- another record.
 use Rattle.std.specs.Prelude.{◌≡◌, ℕ, ◌==◌, List, [], Option, Some, None, if◌then◌else◌, map}
 use Rattle.std.specs.List.{All}
 use Rattle.std.specs.Option.{IsSome}
@@ -96,10 +97,10 @@ entry_read it numbers edges =
 
 -- ---- what is looked at
 
--- what is read of the record, without its lists, is reported as it is
+-- the entry that is read of the record, without its lists, has this record again
 abbrev pub HasForm : RecordOut → Type 0
 HasForm it = record_of (entry_read it [] []) ≡ record it { number_count = 0; edge_count = 0 }
 
--- the rights of each edge are those of a label
+-- the rights of each edge are the rights of a label
 abbrev pub AreLabelled : List EdgeOut → Type 0
 AreLabelled edges = All (λ edge. IsSome (label_at edge.rights)) edges

@@ -1,4 +1,4 @@
--- What is asked of a store in its place.
+-- The questions to a store in its place.
 use Rattle.std.specs.Prelude.{◌≡◌, ℕ, true, List, Result, IfErr, IfOk}
 use Rattle.tg_model.specs.Graph.{ProtectionGraph}
 use Rattle.tg_c.specs.declared.forms.EdgeIn.{EdgeIn}

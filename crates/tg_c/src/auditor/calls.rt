@@ -74,7 +74,7 @@ pub fn sweep(alloc: Global, auditor: &mut AuditorPlace) -> Result<(), CallRefusa
     auditor.with_open(alloc, |audit| audit.sweep())?
 }
 
-/// Gives up the store's entries before a place, where the auditor has come as far.
+/// Gives up the store's entries before a place, if the auditor has come as far.
 pub fn forget_audited(
     alloc: Global,
     auditor: &mut AuditorPlace,

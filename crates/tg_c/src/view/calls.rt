@@ -15,7 +15,7 @@ use std::alloc::Global;
 use tg_rights::Right;
 
 /// Opens a view, which no place has yet, of the store in a place. The silent workers take no turns, and the edges of
-/// `as_if` are supposed to be there too. The checks are those of a question (`crate::foresee`), in this order:
+/// `as_if` are supposed to be there too. The checks are the checks of a question (`crate::foresee`), in this order:
 ///
 /// 1. the rights of the edges,
 /// 2. whether the view's place is closed, by `is_open`,

@@ -13,8 +13,8 @@ use tg_could::{Chance, Question, Scene, View, join_reached, supposing};
 use tg_model::{Edge, Picture};
 use tg_rights::Right;
 
-/// What could come about among the vertices that the active subjects of a graph reach, as of the moment when it was
-/// made.
+/// The rights that could come about among the vertices that the active subjects of a graph reach. A sight is of the
+/// moment when it was made.
 #[derive(Drop)]
 pub struct Sight {
     // It is `None` if no subject is active. Then no vertex is reached, and no right comes about any more.
@@ -42,7 +42,7 @@ pub enum Glimpse {
 }
 
 impl Glimpse {
-    /// The number of its kind, as an answer has it: 0 never, 4 that x isn't reached, 6 perhaps.
+    /// The number of its kind, as in an answer. It is 0 for never, 4 if x isn't reached, and 6 for perhaps.
     pub fn kind(self) -> u64
         ensures { result ≡ kind_seen self }
     {

@@ -1,4 +1,5 @@
-"""What is read of the output of a check."""
+"""Tests of the reader of the output of a
+check."""
 import unittest
 
 from ..answers import clause_of

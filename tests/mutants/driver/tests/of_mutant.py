@@ -1,4 +1,4 @@
-"""What is read of the file of a mutant, and how the mutant is planted."""
+"""Tests of the reader of the file of a mutant, and of how the mutant is planted."""
 from repository.tree import BadInput, Tree, write_text
 
 from ..mutant import Mutant, Public, mutants_of, read_mutant
@@ -7,7 +7,7 @@ from .stored import InARoom
 WHAT = "what: a user suffers\ncheck: pack\nrefused: pack: bits\n"
 EDIT = "file: src/words.rt\nold: left\nnew: right\n"
 
-# Files that are no mutants, and what is said of each after the name of the file.
+# Files that are no mutants, with the message on each after the name of the file.
 BAD_FILES = {
     f"{WHAT}by chance\n{EDIT}": r":4: not of the form that .* has: by chance",
     f"{WHAT}by: chance\n{EDIT}": r":4: 'by:' isn't expected here",
@@ -23,7 +23,8 @@ BAD_FILES = {
 
 
 class FileOfAMutant(InARoom):
-    """What is read of a file, and what is said if it isn't of the form or doesn't fit the tree."""
+    """Tests of the reader of a file, and of the messages if it isn't of the form or doesn't fit
+    the tree."""
 
     def read(self, text: str) -> Mutant:
         """The mutant in a file with this text."""

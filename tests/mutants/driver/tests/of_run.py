@@ -66,14 +66,14 @@ class WhatIsDue(OfASmallCrate):
 
 
 class WhatIsTried(OfASmallCrate):
-    """All mutants, or those that are due, within a time."""
+    """All mutants, or the mutants that are due, within a time."""
 
     def run_of(self, names: str, is_limited: bool, seconds: list[float]) -> str:
-        """What is reported of mutants that are refused, if the clock of processor time shows these seconds."""
+        """The report on mutants that are refused, if the clock of processor time shows these seconds."""
         mutants = [mutant_with(name=name, path=self.top / "crates.txt") for name in names]
 
         def check(_run: Run, _crate: str, _folder: Path, functions: list[str]) -> Report:
-            """What is said of these functions."""
+            """The report on these functions."""
             lines = [f"fn small::{name}: `search` did not prove `returns-clause-even`\n" for name in functions]
             return report_of((line, 0.0) for line in (*lines, "only=1 holes=0\n"))
 
@@ -90,7 +90,7 @@ class WhatIsTried(OfASmallCrate):
         self.assertIn("\n0 refused, 0 found by tests, 0 not\n", told)
 
     def test_the_time_ends_a_limited_run(self):
-        # (the first group takes 400 seconds of 600: too few are left for another one)
+        # (the first group takes 400 seconds of 600, so too few are left for another group)
         self.assertIn("3 in all, 3 due, 1 tried; a sample drawn by ", self.run_of("abc", True, [0, 400]))
 
     def test_what_is_due_is_tried_within_the_time(self):
@@ -109,7 +109,7 @@ class FoundByARun(InARoom):
     """A script that fails finds the mutant, one that ends well doesn't, and all else judges nothing."""
 
     def told(self, script: str, errors: str | None = None) -> tuple[Outcome, str]:
-        """What becomes of a mutant, by a script and the errors of the build."""
+        """The verdict on a mutant, by a script and the errors of the build."""
         self.put({"crates.txt": "", "script": script})
         with patch.object(by_run, "build_program", lambda *_: errors):
             return by_run.try_script(Tree(self.top), "tgstore", ["bash", f"{self.top}/script"])
@@ -128,7 +128,8 @@ class FoundByARun(InARoom):
 
 
 class Table(OfASmallCrate):
-    """A clause of a public function has the mutants that it refuses, and those that a private clause below it refuses."""
+    """A clause of a public function has the mutants that it refuses, and the mutants that a private clause below it
+    refuses."""
 
     def test_a_clause_has_its_mutants(self):
         self.put({"crates/small/src/lib.rt": COUNTS + LIB})

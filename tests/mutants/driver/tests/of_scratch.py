@@ -1,4 +1,5 @@
-"""Where functions are, and what is in a scratch copy of a crate."""
+"""Tests of the places of functions, and of the content of a scratch
+copy of a crate."""
 import unittest
 
 from repository.tree import read_text
@@ -33,7 +34,8 @@ EVEN = frozenset(["returns-clause-even"])
 
 
 class InAScratchCopy(OfASmallCrate):
-    """What is checked, and what is taken as it is stated."""
+    """Tests of the functions that are checked, and of the functions
+    that are taken as they are stated."""
 
     def planted(self, *trials: Trial) -> tuple[dict[str, str], list[Standing]]:
         """The files of the scratch copy, and where the trials are."""

@@ -1,4 +1,4 @@
-"""What becomes of a mutant."""
+"""Tests of the verdict on a mutant."""
 from ..check import LIMIT
 from ..verdict import Outcome, Verdict, groups_of, try_group
 from .stored import OfASmallCrate, mutant_with
@@ -13,7 +13,8 @@ RIGHT, RIGHT_NOT = "fn small::{1}: proved\n", OPEN.replace("{0}", "{1}")
 
 
 class Verdicts(OfASmallCrate):
-    """By what the check says, of the mutant and then of the right function."""
+    """The verdict by the reports of the check on the mutant, and then on the right
+    function."""
 
     def verdict(self, *says: str, **fields: object) -> Verdict:
         """The verdict on a mutant with these fields, if the checks say this in turn."""

@@ -1,5 +1,5 @@
-"""What the tests are given: outputs of the checker as it wrote them, a crate of one file, and a check that says what it
-is to say."""
+"""The data of the tests. They are outputs of the checker as it wrote them, a crate of one file, and a check with a
+prescribed output."""
 import tempfile
 import unittest
 from dataclasses import replace
@@ -41,7 +41,8 @@ LEMMAS = "double : (n : ℕ) → n + n ≡ 2 * n\ndouble n = by arith\n"
 
 
 def said(name: str) -> Report:
-    """What the stored output of a check says. Each of its lines came a processor second after the one before."""
+    """The report in the stored output of a check. Each of its lines came a processor second after the line
+    before."""
     lines = read_text(CONTROLS / f"said/{name}.txt").splitlines(keepends=True)
     return report_of((line, float(seconds)) for seconds, line in enumerate(lines, 1))
 
@@ -81,7 +82,7 @@ class OfASmallCrate(InARoom):
         self.put({f"crates/small/{file}": text for file, text in files.items()})
         self.put({"crates.txt": "small: # no library\n"})
         self.tree = Tree(self.top)
-        # what is said in each check in turn, and when its first lines came, and what was checked: functions and files
+        # the output of each check in turn, when its first lines came, and the functions and files that were checked
         self.says: list[str] = []
         self.seconds: list[float] = []
         self.asked: list[tuple[list[str], dict[str, str]]] = []
