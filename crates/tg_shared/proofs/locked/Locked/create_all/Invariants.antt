@@ -1,4 +1,4 @@
-use Rattle.std.proofs.Common.{◌≡◌, ◌+◌, ◌≤◌, drop, length, reverse, take, vec_capacity}
+use Rattle.std.proofs.Common.{◌≡◌, ◌+◌, drop, length, reverse, take}
 use Rattle.tg_store.specs.Store.{graph_of_store}
 use Rattle.tg_shared.specs.Batch.{AddsInLock}
 use Rattle.tg_shared.specs.Creating.{creating}
