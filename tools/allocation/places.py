@@ -173,6 +173,7 @@ NAMED = {
         "a vertex that is reached each",
     ("tg_store/src/store/picture.rt", "find_reached", "while next<found.vertices.len()"):
         "a vertex that is reached each",
+    ("tg_shared/src/creating.rt", "create_all", "while let Some(draft)=drafts.pop()"): "a draft of the list each",
     ("tg_graph/src/settle.rt", "add_indexed", "while let Some(number)=row.noted.next(from)"):
         "a cell that was noted each",
     ("tg_script/src/opening.rt", "read_edges", "while let Some(line)=script.next(source, sink)?"): "a line each",

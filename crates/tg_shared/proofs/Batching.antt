@@ -20,13 +20,14 @@ use Rattle.tg_store.specs.declared.batch.BatchFault.TheVariants.{Stopped, TooLon
 use Rattle.tg_store.specs.declared.fault.ApplyFault.{ApplyFault}
 use Rattle.tg_store.specs.declared.fault.ApplyFault.TheVariants.{HeapFull, NoSuchWorker, OutOfMemory}
 use Rattle.tg_store.proofs.BatchLaws.{KeepsRest, applied_more, applied_none, applied_still, refused_still}
-use Rattle.tg_shared.specs.Batch.{AnswersAll, ServesAll, StopsAtCall, StopsCalls, StopsServing, StopsServingAt}
+use Rattle.tg_shared.specs.Batch.{AddsInLock, AnswersAll, ServesAll, StopsAtCall, StopsCalls, StopsServing, StopsServingAt}
 use Rattle.tg_shared.specs.Serving.{HasNoted, KeepsRound, ServesCommand}
 use Rattle.tg_shared.specs.Sessions.{AddsReceipts, AtSeen, HasGrownBy, HoldsWhenFree, IsNobodyAtSeen, KeepsReceipts, LockedState, Records, SessionState, SharedStart, retired_behind}
 use Rattle.tg_shared.specs.declared.receipt.Receipt.{Receipt}
 use Rattle.tg_shared.specs.Receipts.{receipts_from}
+use Rattle.tg_shared.proofs.Adding.{adds_at_seen, kept_none}
 use Rattle.tg_shared.proofs.Calls.{found_with, worker_not_full}
-use Rattle.tg_shared.proofs.Knowing.{got_more, longer_made, looked_none, places_are}
+use Rattle.tg_shared.proofs.Knowing.{got_more, longer_made, looked_none}
 use Rattle.tg_shared.proofs.Leavings.{adds_one}
 use Rattle.tg_shared.proofs.Noting.{sign_more}
 use Rattle.tg_shared.proofs.Replies.{IsReady, refused_ready}
@@ -82,29 +83,18 @@ stops_serving {T = T} commands old now new before mid after done x why inside is
 
 -- ---- what the session knows
 
--- the receipts of a session that looked before
-pub added_all : (old ready new : SessionState) (at : ℕ) (es : List Entry) → KeepsReceipts (record old { seen = ready.seen }) ready → AddsReceipts ready new at es → AddsReceipts old new at es
-added_all old ready new at es keeps adds = (
-  adds.0 ∙ keeps.0,
-  adds.1 ∙ ap (λ (rs : List Receipt). rs ++ receipts_from at es) keeps.1,
-  adds.2 ∙ keeps.2,
-  adds.3 ∙ keeps.3,
-  adds.4 ∙ ap (λ (b : Bool). retired_behind b es) keeps.4,
-  adds.5 ∙ ap (λ (l : List Entry). l ++ es) keeps.5,
-)
+-- the entries of the commands
+added_of : (v w : LockedState) (ready new : SessionState) (commands : List Command) → (served : ServesAll commands v w ready new) → AddsInLock served.applies.made v w ready new
+added_of v w ready new commands served =
+    record { made = served.applies.entries; legal = served.applies.legal; opening = served.applies.opening; collections = served.applies.collections; receipts = served.receipts; signed = served.signed; seen = served.seen }
 
 pub answers_all : (start : SharedStart) (v w : LockedState) (old ready new : SessionState) (commands : List Command) → IsReady start v old ready → ServesAll commands v w ready new → AnswersAll start commands old new
 answers_all start v w old ready new commands is_so served =
-    let keeps = is_so.looked.kept in
     let made : List Entry = served.applies.made in
     record {
-      before = v.signed;
-      sees = is_so.sees;
       entries = made;
-      theirs = subst (λ (n : ℕ). AreOfCommands n commands made) keeps.0 served.applies.theirs;
-      receipts = subst (λ (n : ℕ). AddsReceipts old new n made) (places_are start v.store v.signed is_so.held.grown_by) (added_all old ready new _ made keeps served.receipts);
-      legal = found_with start v.signed (λ s. IsLegal (graph_of_store s) made) v is_so.held refl served.applies.legal;
-      seen = served.seen is_so.all ∙ served.signed ∙ ap (λ (n : ℕ). v.signed ++ sign_all (Session n) made) keeps.0;
+      theirs = subst (λ (n : ℕ). AreOfCommands n commands made) is_so.looked.kept.0 served.applies.theirs;
+      added = adds_at_seen start v w old ready new made is_so (added_of v w ready new commands served);
     }
 
 none_of : (made : List Entry) → map (λ (e : Entry). e.deed) made ≡ [] → made ≡ []
@@ -112,19 +102,16 @@ none_of [] is = refl
 none_of (e ∷ made) is = let no : ⊥ = cc in absurd no
 
 -- no command was taken
-kept_none : (commands : List Command) (v w : LockedState) (ready new : SessionState) → commands ≡ [] → ready.seen ≡ v.signed → ServesAll commands v w ready new → KeepsReceipts ready new
-kept_none commands v w ready new is all served =
-    let none : served.applies.made ≡ [] = none_of served.applies.made (served.applies.theirs.deeds ∙ ap (map (λ (c : Command). Plain c)) is) in
-    let r : AddsReceipts ready new (length v.store.entries) [] = subst (AddsReceipts ready new (length v.store.entries)) none served.receipts in
-    let signed : w.signed ≡ v.signed = served.signed ∙ ap (λ (es : List Entry). v.signed ++ sign_all (Session ready.worker) es) none ∙ append-nil v.signed in
-    (r.0, r.1 ∙ append-nil ready.receipts, r.2, r.3, r.4, r.5 ∙ append-nil ready.made, served.seen all ∙ signed ∙ sym all)
+none_kept : (commands : List Command) (v w : LockedState) (ready new : SessionState) → commands ≡ [] → ready.seen ≡ v.signed → ServesAll commands v w ready new → KeepsReceipts ready new
+none_kept commands v w ready new is all served =
+    kept_none served.applies.made v w ready new (none_of served.applies.made (served.applies.theirs.deeds ∙ ap (map (λ (c : Command). Plain c)) is)) all (added_of v w ready new commands served)
 
 pub stops_at_call : (start : SharedStart) (v w : LockedState) (old ready new : SessionState) (commands : List Command) (done : ℕ) (why : ApplyFault) → IsReady start v old ready → HoldsWhenFree start w → StopsServingAt commands v w ready new done why → StopsAtCall start commands old new done why
 stops_at_call start v w old ready new commands done why is_so held stop =
     let keeps = is_so.looked.kept in
     record {
       place = slice_get_within commands done stop.refused.next stop.refused.there;
-      none = λ zero. (refused_ready start v old ready new is_so (kept_none (take done commands) v w ready new (ap (λ (n : ℕ). take n commands) zero) is_so.all stop.served)).0;
+      none = λ zero. (refused_ready start v old ready new is_so (none_kept (take done commands) v w ready new (ap (λ (n : ℕ). take n commands) zero) is_so.all stop.served)).0;
       some = λ _. answers_all start v w old ready new (take done commands) is_so stop.served;
       refused = λ _. found_with start new.seen (λ s. IsRefusedAt old.worker commands s done why) w held (stop.served.seen is_so.all) (subst (λ (n : ℕ). IsRefusedAt n commands w.store done why) keeps.0 stop.refused);
     }

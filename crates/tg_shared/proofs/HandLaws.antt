@@ -27,7 +27,7 @@ use Rattle.tg_shared.specs.declared.handing.OwnHand.{OwnHand}
 use Rattle.tg_shared.specs.Handing.{HandsAtSeen, RefusesHand, ServesHand, entries_handed, hand_by}
 use Rattle.tg_shared.specs.Serving.{HasNoted, Signs}
 use Rattle.tg_shared.specs.Sessions.{AddsReceipt, AddsReceipts, HoldsWhenFree, IsNobodyAtSeen, KeepsReceipts, LockedState, RecordsNothing, SessionState, SharedStart, retired_behind, retired_by, spawned}
-use Rattle.tg_shared.proofs.Batching.{added_all}
+use Rattle.tg_shared.proofs.Replies.{added_all}
 use Rattle.tg_shared.proofs.Calls.{err_as, found_with, ok_not_err}
 use Rattle.tg_shared.proofs.Knowing.{got_more, looked_none, places_are}
 use Rattle.tg_shared.proofs.Leavings.{adds_one}

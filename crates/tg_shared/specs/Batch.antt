@@ -34,20 +34,36 @@ abbrev pub StopsServing : List Command → LockedState → LockedState → Sessi
 StopsServing commands old new before after TooLong = ⊥
 StopsServing commands old new before after (Stopped done why) = StopsServingAt commands old new before after done why
 
+-- Exactly these entries of a session's subject were made, and exactly their receipts were added, at the places of the entries. They were
+-- legal, one after the other, on the graph before. They were noted as the session's, and a session that had seen all entries has seen
+-- these too.
+pub record AddsInLock (entries : List Entry) (old new : LockedState) (before after : SessionState) : Type 0 where
+  pub made : new.store.entries ≡ old.store.entries ++ entries
+  pub legal : IsLegal (graph_of_store old.store) entries
+  pub opening : new.store.opening ≡ old.store.opening
+  pub collections : new.store.collections ≡ old.store.collections
+  pub receipts : AddsReceipts before after (length old.store.entries) entries
+  pub signed : new.signed ≡ old.signed ++ sign_all (Session before.worker) entries
+  pub seen : before.seen ≡ old.signed → after.seen ≡ new.signed
+
 -- ---- what a session knows
 
--- Exactly one receipt more for each of the commands, in their order, of entries at places that follow one another. They came next after
--- these entries since the start, which the session sees: they begin with those that it had seen, and its own among them are exactly
--- those that it had made. Each new entry was legal on the graph after those before it: the reply is the rules' there. The session has
--- then seen them and the new ones.
-pub record AnswersAll (start : SharedStart) (commands : List Command) (old new : SessionState) : Type 0 where
+-- Exactly one receipt more for each of these entries, in their order, at places that follow one another. They came next after these
+-- entries since the start, which the session sees: they begin with those that it had seen, and its own among them are exactly those that
+-- it had made. Each new entry was legal on the graph after those before it: the reply is the rules' there. The session has then seen
+-- them and the new ones.
+pub record AddsAtSeen (start : SharedStart) (entries : List Entry) (old new : SessionState) : Type 0 where
   pub before : List Signed
   pub sees : Sees before (knowledge old)
-  pub entries : List Entry
-  pub theirs : AreOfCommands old.worker commands entries
   pub receipts : AddsReceipts old new (length start.entries + length before) entries
   pub legal : AtSeen start before (λ s. IsLegal (graph_of_store s) entries)
   pub seen : new.seen ≡ before ++ sign_all (Session old.worker) entries
+
+-- Exactly one entry, with its receipt, for each of the commands, in their order.
+pub record AnswersAll (start : SharedStart) (commands : List Command) (old new : SessionState) : Type 0 where
+  pub entries : List Entry
+  pub theirs : AreOfCommands old.worker commands entries
+  pub added : AddsAtSeen start entries old new
 
 -- A batch stopped at the command at a place. The commands before it were answered; if there is none, no receipt was added. The refusal
 -- was due of a store with exactly the entries that the session has then seen, unless memory ran out.

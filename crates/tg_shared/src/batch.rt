@@ -3,6 +3,7 @@ ghost use Rattle.std.specs.Prelude.{◌≡◌, ◌↔◌, ◌⊎◌, ◌<◌, �
 ghost use Rattle.tg_passes.specs.declared.signed.Maker.TheVariants as maker;
 ghost use Rattle.tg_passes.specs.Passes.{entries_by};
 ghost use Rattle.tg_shared.specs.Batch.{AnswersAll, ServesAll, StopsCalls, StopsServing};
+ghost use Rattle.tg_shared.specs.Serving.{KeepsNumbers};
 ghost use Rattle.tg_shared.specs.Sessions.{IsNobodyAtSeen, KeepsReceipts};
 
 use crate::locked::Locked;
@@ -15,9 +16,10 @@ use tg_payload::Payload;
 use tg_store::{ApplyFault, BatchFault, MOST_BATCH};
 
 impl<L: Round, P: Payload> Locked<L, P> {
-    // Takes the commands of the session's subject one after the other, and adds a receipt of each. Stops at the first
-    // that is refused, and at nothing else. There has to be room for all receipts.
-    fn apply_all(
+    /// Takes the commands of the session's subject one after the other, each by one call of the store, and adds a
+    /// receipt of each. Stops at the first command that is refused, and at nothing else. There has to be room for all
+    /// receipts.
+    pub fn apply_all(
         &mut self,
         session: &mut Session<L>,
         commands: &[Command],
@@ -26,6 +28,7 @@ impl<L: Round, P: Payload> Locked<L, P> {
         ensures done { IfOk result (λ count. count ≡ length commands.now) }
         ensures served { OnOk result (ServesAll commands.now self.old self.new session.old session.new) }
         ensures stopped { IfErr result (StopsServing commands.now self.old self.new session.old session.new) }
+        ensures numbers { KeepsNumbers self.old self.new }
     {
         for (done, command) in commands.iter().enumerate() {
             if let Err(why) = self.apply(session, *command) {
@@ -87,8 +90,10 @@ impl<L: Round> Session<L> {
         answered
     }
 
-    // Makes room for so many receipts, unless the session entered its own retire. The receipts stay.
-    pub(crate) fn make_ready_for(&mut self, more: usize) -> Result<(), ApplyFault>
+    /// Makes room for so many receipts, as [`call_all`](Session::call_all) does before it takes the lock. The receipts
+    /// stay. A session that entered its own retire is refused with `NoSuchWorker`, and otherwise the only refusal is
+    /// `OutOfMemory`.
+    pub fn make_ready_for(&mut self, more: usize) -> Result<(), ApplyFault>
         ensures room { OnOk result (more ≤ self.new.spare) }
         ensures receipts { KeepsReceipts self.old self.new }
         ensures retired { self.old.retired ≡ true → result ≡ Err ApplyFault.NoSuchWorker }

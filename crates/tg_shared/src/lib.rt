@@ -17,13 +17,13 @@
 //! checks that each receipt is the journal's entry at its place. Then it hands out the store.
 //!
 //! The contracts of [`Locked`], the type in the lock, say what a call does to the value there. Each call of a session
-//! is one call of the store and makes at most one receipt. [`Session::call_all`] makes several in a row. The clauses of
-//! a session speak of its own receipts and of a store. This store has exactly the entries that the session has then
-//! seen since the start. The answer was right for such a store ('What a session can know' in
-//! docs/inside/ARCHITECTURE.md). Its pass shows which of these entries are its own. They are exactly the entries that
-//! its calls made ('How a session knows its own entries' there). [`close`] says that the journal begins with what each
-//! session has seen. Whenever the lock is free, the store has all entries of the shared store, and keeps its promise
-//! ([`Locked::store`]). The book beside it has then counted each entry since.
+//! is one call of the store and makes at most one receipt. [`Session::call_all`] and [`Session::create_all`] make
+//! several in a row. The clauses of a session speak of its own receipts and of a store. This store has exactly the
+//! entries that the session has then seen since the start. The answer was right for such a store ('What a session can
+//! know' in docs/inside/ARCHITECTURE.md). Its pass shows which of these entries are its own. They are exactly the
+//! entries that its calls made ('How a session knows its own entries' there). [`close`] says that the journal begins
+//! with what each session has seen. Whenever the lock is free, the store has all entries of the shared store, and keeps
+//! its promise ([`Locked::store`]). The book beside it has then counted each entry since.
 //!
 //! A session may make a subject, and gets the session of the new subject ([`Session::spawn`]). This session is owed to
 //! [`close`] too. A subject that retires makes no more entries. Its session is owed all the same.
@@ -46,12 +46,14 @@
 //!
 //! **Why nothing is refused between an entry and its receipt.** A session makes room for the receipt, and copies the
 //! state of a vertex to be made, before it takes the lock ([`Session::make_room`]). The reply moves into the receipt.
-//! So under the lock only the store's call takes memory, and it is refused before it makes an entry.
+//! So under the lock only the store's call takes memory, and it is refused before it makes an entry. A batch of creates
+//! copies each state under the lock, before the store's call.
 #![tactic(auto)]
 
 mod batch;
 mod call;
 mod closing;
+mod creating;
 mod handing;
 mod helpers;
 mod keeper;
@@ -66,6 +68,7 @@ mod shared;
 mod withdrawing;
 
 pub use closing::{CloseFault, LockedRefused};
+pub use creating::CreatesFault;
 pub use handing::OwnHand;
 pub use keeper::Keeper;
 pub use locked::Locked;
