@@ -107,6 +107,7 @@ enum {
     TG_WORKERS_FULL = 35,     /* tg_spawn: 64 workers are active, and a vertex may be made. The journal has an entry of it */
 
     TG_NO_SUCH_WORKER = 48,   /* exactly where the store is open, no worker has the name, and no argument is TG_BAD_.. */
+    TG_IN_USE = 49,           /* tg_park: the account holds some right already, or the user holds a right over it */
 
     TG_BAD_RIGHTS = 64,       /* no right, or a bit that is no right; several rights where one is asked about; tg_rights_read: other letters */
     TG_BAD_LAW = 65,          /* no such law, or a log of 0 or of more than 64 numbers */
@@ -128,7 +129,8 @@ enum {
     TG_CELL = 0,              /* keeps the last number */
     TG_SUM = 1,               /* adds, modulo 2^64 */
     TG_MAX = 2,               /* keeps the greatest */
-    TG_LOG = 3                /* keeps the last few, oldest first */
+    TG_LOG = 3,               /* keeps the last few, oldest first */
+    TG_NO_LAW = 15            /* of tg_law and tg_law_of alone: no law is reported */
 };
 
 /* What a vertex stores at first: 16 bytes. */
@@ -150,6 +152,13 @@ typedef struct tg_handing {
     uint64_t target;          /* the vertex that the rights are over */
     uint64_t rights;
 } tg_handing;
+
+/* A user whom a host parks, for tg_park: 24 bytes. */
+typedef struct tg_parking {
+    uint64_t host;            /* the worker that has g over the user and over the account */
+    uint64_t user;            /* the worker that leaves */
+    uint64_t account;         /* the vertex that is to hold what the user holds */
+} tg_parking;
 
 /* The limits of a store: 24 bytes. */
 typedef struct tg_limits {
@@ -337,6 +346,26 @@ tg_status tg_retire(tg_store *store, uint64_t worker);
    (tg_who_holds). */
 tg_status tg_leave(tg_store *store, uint64_t worker, uint64_t *count);
 
+/* Parks a user. What the user holds goes into the account, and the user leaves, completely or not at all. Afterwards the account
+   holds exactly what the user held, the user holds nothing and is no worker, and all other labels are as they were. Edges to the
+   user stay, and what the user stored is lost with its vertex. How many edges the user had goes to *edges. `denial` may be NULL.
+
+   The account is a vertex that holds nothing, such as an object that the host has just made. The host has g over the user and over
+   the account. It needs t over the account too if a worker is to take everything out later (docs/RECIPES.md). Whoever else has t
+   over the account can take what it holds, so let the host alone have rights over it.
+
+   Each command has an entry of its own, as if its worker had asked for it. The host grants the user g over the account. The user
+   grants the account each of its edges, by rising name, and removes its g. Then it leaves, as by tg_leave. So there are two entries
+   for each edge, and three more.
+
+   The host's grant is decided first. It is denied if the host, the user and the account aren't three vertices, or if the host has no
+   g over the user or over the account, as over a name that was never made. After TG_DENIED this grant has the only entry.
+
+   It is refused in this order: TG_NOT_OPEN, TG_NO_SUCH_WORKER exactly where the host or the user is no worker, TG_OUT_OF_MEMORY,
+   TG_IN_USE, and TG_OUT_OF_MEMORY or TG_HEAP_FULL where the account's edges find no room. There is no entry then, and all labels,
+   values and workers are as they were. The room for all entries is made before the grant is decided, with 160 bytes for each edge. */
+tg_status tg_park(tg_store *store, const tg_parking *parking, uint64_t *edges, tg_denial *denial);
+
 /* Lists who holds one right over the vertex with this name: workers, objects, and workers that retired, of all that a worker
    reaches. The first `room` of their names go to names, by rising name. How many there are goes to *count. The answer is the
    same before and after a collection. The journal gets no entry. Time and memory follow what the workers reach. TG_BAD_RIGHTS
@@ -410,6 +439,16 @@ tg_status tg_apply_all(tg_store *store, uint64_t worker, const tg_command *comma
    was never made, and over a vertex that was collected. The journal gets no entry, and no memory is taken. So a host asks by
    this call what a worker may do, and limits how often a worker that it doesn't trust may list. */
 tg_status tg_label(tg_store *store, uint64_t worker, uint64_t target, uint64_t *rights);
+
+/* Writes the law by which the target stores numbers to *law, if the worker has r, w or a over the target. *most gets how many
+   numbers a log keeps, and 0 for each other law. If the worker has none of these rights, *law is TG_NO_LAW. The journal gets no
+   entry, and no memory is taken. The law of a vertex never changes. */
+tg_status tg_law(tg_store *store, uint64_t worker, uint64_t target, uint32_t *law, uint32_t *most);
+
+/* Writes the law of the vertex with this name, as tg_law does, whoever has rights over it. So it is for the host. *law is TG_NO_LAW
+   if the name was never made, and if no worker reaches the vertex, whether it was collected or not. The journal gets no entry. Time
+   and memory follow what the workers reach. */
+tg_status tg_law_of(tg_store *store, uint64_t name, uint32_t *law, uint32_t *most);
 
 /* Collects, by TG_FULL or TG_NURSERY. How many vertices the heap then has goes to *left. No reply and no right changes. */
 tg_status tg_collect(tg_store *store, uint32_t kind, uint64_t *left);
