@@ -737,7 +737,7 @@ static void a_user_is_parked(void) {
 
 /* A user whose nursery is full is refused, and everybody holds what it held. After a collection there is room. */
 static void parked_in_a_full_heap(void) {
-    const tg_limits small = { 1000, 6, 4 };
+    const tg_limits small = { 1000, 20, 4 };
     const tg_edge knows = { 0, 1, TG_GRANT };
     tg_store store = TG_STORE_INIT;
     uint64_t account, name, made = 0, count = UNTOUCHED, rights;
