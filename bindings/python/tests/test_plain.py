@@ -59,8 +59,8 @@ NUMBERS = (0, 1, 7, 40, 2**63, 2**64 - 1)
 VALUES = (Cell(3), Sum(40), Sum(2**64 - 1), Max(9), Log(1), Log(2), Log(2))
 MAKING, MOVING = ("create", "spawn"), ("take", "grant", "hand")
 TOUCHING = ("read", "write", "append", "inspect", "label", "law", "law_of", "who_holds", "withdraw")
-COMMANDS = (*MAKING, "create", *MOVING * 3, *TOUCHING, "append", "append", "remove", "list")
-RARE = ("retire", "leave", "park", "park", "wrong", "look_back")
+COMMANDS = (*MAKING, "create", *MOVING * 3, *TOUCHING, "append", "append", "remove", "list", "park")
+RARE = ("retire", "leave", "wrong", "look_back")
 
 
 class Different(AssertionError):
@@ -115,7 +115,7 @@ class Draw:
         if command == "look_back":
             return self.rng.choice([("entry", self.rng.randrange(MANY)), ("entries",), ("first",), ("audit",)])
         if command == "park":
-            return command, *self.parking(graph, x)
+            return command, *self.parking(graph)
         if command in MAKING:
             return command, x, self.rights() | (TAKE | GRANT if self.rng.random() < 0.5 else 0), self.rng.choice(VALUES)
         if command in MOVING:
@@ -140,14 +140,16 @@ class Draw:
         target, rights = self.target(graph, x if command == "grant" else via)
         return (via, self.target(graph, x, GRANT)[0], target, rights) if command == "hand" else (via, target, rights)
 
-    def parking(self, graph, x):
-        """A host, a user and an account. Mostly the host may grant to both."""
-        user, _ = self.target(graph, x, GRANT)
-        granted = [y for y, rights in graph.row(x) if rights & GRANT and y in graph.subjects]
-        if granted and self.rng.random() < 0.8:
-            user = self.rng.choice(granted)
-        unused = [y for y, rights in graph.row(x) if rights & GRANT and not graph.row(y) and y != user]
-        return x, user, self.rng.choice(unused) if unused and self.rng.random() < 0.8 else self.target(graph, x, GRANT)[0]
+    def parking(self, graph):
+        """A host, a user and an account. Mostly the host has g over the user and over the account, and mostly the account holds nothing."""
+        known = [(x, [y for y, rights in graph.row(x) if rights & GRANT]) for x in graph.subjects[-6:]]
+        pairs = [(host, user, granted) for host, granted in known for user in granted if user in graph.subjects]
+        if not pairs or self.rng.random() < 0.1:
+            return [self.name(graph) for _ in range(3)]
+        host, user, accounts = self.rng.choice(pairs)
+        empty = [y for y in accounts if y != user and not graph.row(y) and not graph.label(user, y)]
+        drawn = self.rng.random()
+        return host, user, self.rng.choice(empty if empty and drawn < 0.5 else accounts) if drawn < 0.9 else self.name(graph)
 
     def wrong(self, graph, x):
         """A call that is refused for what it is asked."""
@@ -494,7 +496,7 @@ def with_wrong_edge(call, *arguments):
 
 def parked_in_words(it, host, user, account):
     """The commands of a parking up to the leave. Returns how many edges the user has, and itself."""
-    row = [(edge.to, edge.rights) for edge in it.list(user)]
+    row = [(target, it.label(user, target)) for target in sorted(it.names()) if it.label(user, target)]
     Store.grant(it, host, user, account, GRANT)
     for target, rights in row:
         Store.grant(it, user, account, target, rights)
