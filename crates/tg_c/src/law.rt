@@ -11,7 +11,7 @@ use std::alloc::Global;
 use tg_model::Law;
 
 /// Returns the law of what a vertex stores, if the worker holds r, w or a over the vertex.
-pub fn law_to(
+pub fn law_for_worker(
     alloc: Global,
     place: &mut StorePlace,
     worker: u64,
@@ -23,14 +23,14 @@ pub fn law_to(
 }
 
 /// Returns the law of what a vertex stores, if the active subjects reach the vertex.
-pub fn law_of(
+pub fn law_for_host(
     alloc: Global,
     place: &mut StorePlace,
     name: u64,
 ) -> Result<Option<Law>, CallRefusal>
     ensures { AsksLawOf place.old place.new name (λ told. result ≡ told) }
 {
-    place.with_open(alloc, |opened| opened.law_of(alloc, name))?
+    place.with_open(alloc, |opened| opened.law_to_host(alloc, name))?
 }
 
 /// Reports the number of a law, and how many numbers a log keeps. Returns the status.

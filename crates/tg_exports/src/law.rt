@@ -2,7 +2,7 @@
 ghost use Rattle.tg_c.specs.Laws.{AsksLawOf, AsksLawTo, TellsLaw, law_room};
 
 use std::alloc::Global;
-use tg_c::law::{law_of, law_to, tell_law};
+use tg_c::law::{law_for_host, law_for_worker, tell_law};
 use tg_c::place::StorePlace;
 
 /// The law of what the target stores, if the worker holds r, w or a over the target. The number of the law goes to
@@ -19,7 +19,7 @@ pub extern "C" fn tg_law(
 ) -> u32
     ensures { AsksLawTo store.old store.new worker target (TellsLaw result (law_room law.old most.old) (law_room law.new most.new)) }
 {
-    tell_law(law_to(alloc, store, worker, target), law, most)
+    tell_law(law_for_worker(alloc, store, worker, target), law, most)
 }
 
 /// The law of what the vertex with a name stores, for the host, whoever has rights over it. It is reported as by
@@ -34,5 +34,5 @@ pub extern "C" fn tg_law_of(
 ) -> u32
     ensures { AsksLawOf store.old store.new name (TellsLaw result (law_room law.old most.old) (law_room law.new most.new)) }
 {
-    tell_law(law_of(alloc, store, name), law, most)
+    tell_law(law_for_host(alloc, store, name), law, most)
 }
