@@ -130,7 +130,7 @@ enum {
     TG_SUM = 1,               /* adds, modulo 2^64 */
     TG_MAX = 2,               /* keeps the greatest */
     TG_LOG = 3,               /* keeps the last few, oldest first */
-    TG_NO_LAW = 15            /* of tg_law and tg_law_of alone: no law is reported */
+    TG_NO_LAW = 15            /* of tg_law and tg_law_of alone: there is no law to report */
 };
 
 /* What a vertex stores at first: 16 bytes. */
@@ -139,6 +139,12 @@ typedef struct tg_value {
     uint32_t most;            /* of a log only: how many numbers it keeps, from 1 to 64. It begins empty */
     uint64_t number;          /* of the other laws: the first number */
 } tg_value;
+
+/* The law by which a vertex stores numbers, for tg_law and tg_law_of: 8 bytes. */
+typedef struct tg_vertex_law {
+    uint32_t law;             /* TG_CELL .. TG_LOG, or TG_NO_LAW */
+    uint32_t most;            /* of a log: how many numbers it keeps. Of all else it is 0 */
+} tg_vertex_law;
 
 /* Rights of worker `from` over worker `to`, at the opening: 24 bytes. */
 typedef struct tg_edge {
@@ -440,15 +446,14 @@ tg_status tg_apply_all(tg_store *store, uint64_t worker, const tg_command *comma
    this call what a worker may do, and limits how often a worker that it doesn't trust may list. */
 tg_status tg_label(tg_store *store, uint64_t worker, uint64_t target, uint64_t *rights);
 
-/* Writes the law by which the target stores numbers to *law, if the worker has r, w or a over the target. *most gets how many
-   numbers a log keeps, and 0 for each other law. If the worker has none of these rights, *law is TG_NO_LAW. The journal gets no
-   entry, and no memory is taken. The law of a vertex never changes. */
-tg_status tg_law(tg_store *store, uint64_t worker, uint64_t target, uint32_t *law, uint32_t *most);
+/* Writes the law by which the target stores numbers to *out, if the worker has r, w or a over the target. If it has none of these
+   rights, out->law is TG_NO_LAW. The journal gets no entry, and no memory is taken. The law of a vertex never changes. */
+tg_status tg_law(tg_store *store, uint64_t worker, uint64_t target, tg_vertex_law *out);
 
-/* Writes the law of the vertex with this name, as tg_law does, whoever has rights over it. So it is for the host. *law is TG_NO_LAW
-   if the name was never made, and if no worker reaches the vertex, whether it was collected or not. The journal gets no entry. Time
-   and memory follow what the workers reach. */
-tg_status tg_law_of(tg_store *store, uint64_t name, uint32_t *law, uint32_t *most);
+/* Writes the law of the vertex with this name to *out, whoever has rights over it. So it is for the host. out->law is TG_NO_LAW if the
+   name was never made, and if no worker reaches the vertex, whether it was collected or not. The journal gets no entry. Time and
+   memory follow what the workers reach. */
+tg_status tg_law_of(tg_store *store, uint64_t name, tg_vertex_law *out);
 
 /* Collects, by TG_FULL or TG_NURSERY. How many vertices the heap then has goes to *left. No reply and no right changes. */
 tg_status tg_collect(tg_store *store, uint32_t kind, uint64_t *left);

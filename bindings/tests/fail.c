@@ -201,13 +201,13 @@ static uint64_t tell_story(void) {
     CALL(tg_edges_to(&store, 2, holders, 8, &count));
     if (count != 2 || holders[1].to != account)
         stop(__LINE__, 0);
-    uint32_t law, most;
-    CALL(tg_law_of(&store, account, &law, &most));
-    if (law != TG_LOG || most != 4)
+    tg_vertex_law law;
+    CALL(tg_law_of(&store, account, &law));
+    if (law.law != TG_LOG || law.most != 4)
         stop(__LINE__, 0);
     before = made;
-    CALL(tg_law(&store, 0, 2, &law, &most));
-    if (law != TG_LOG || most != 2 || made != before)
+    CALL(tg_law(&store, 0, 2, &law));
+    if (law.law != TG_LOG || law.most != 2 || made != before)
         stop(__LINE__, 0);
     /* A question as if 1 had a right over the worker. The answer outlives the store. */
     const tg_edge supposed = { 1, 0, TG_TAKE };

@@ -59,7 +59,7 @@ BEGIN {
     types["u8"] = "char"; types["u32"] = "uint32_t"; types["u64"] = "uint64_t"; types["bool"] = "bool"
     types["EdgeIn"] = "tg_edge"; types["ValueIn"] = "tg_value"; types["LimitsIn"] = "tg_limits"
     types["DenialOut"] = "tg_denial"; types["EdgeOut"] = "tg_target"; types["CensusOut"] = "tg_counts"
-    types["RecordOut"] = "tg_record"; types["HandIn"] = "tg_handing"; types["ParkingIn"] = "tg_parking"
+    types["RecordOut"] = "tg_record"; types["HandIn"] = "tg_handing"; types["ParkingIn"] = "tg_parking"; types["LawOut"] = "tg_vertex_law"
     types["StorePlace"] = "tg_store"; types["StoreHandle"] = "twin_StoreHandle"
     types["AnswerPlace"] = "tg_answer"; types["AnswerHandle"] = "twin_AnswerHandle"
     types["AuditorPlace"] = "tg_auditor"; types["AuditorHandle"] = "twin_AuditorHandle"
@@ -214,7 +214,7 @@ sum {
 }
 
 # of what is reported in the place of a law
-/^law_shown None = / { same("TG_NO_LAW", number_after("= \\(", $0)) }
+/^law_told None = / { same("TG_NO_LAW", number_after("law = ", $0)) }
 
 END {
     # as many as there are, so that a text that is written in another way isn't passed over

@@ -32,6 +32,10 @@ SAME(offsetof(tg_value, law), 0);
 SAME(offsetof(tg_value, most), 4);
 SAME(offsetof(tg_value, number), 8);
 
+SAME(sizeof(tg_vertex_law), 8);
+SAME(offsetof(tg_vertex_law, law), 0);
+SAME(offsetof(tg_vertex_law, most), 4);
+
 SAME(sizeof(tg_edge), 24);
 SAME(offsetof(tg_edge, from), 0);
 SAME(offsetof(tg_edge, to), 8);

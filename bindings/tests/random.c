@@ -586,19 +586,19 @@ static void drop_worker(struct run *run, uint64_t name) {
 
 /* The law of a vertex is that of the stock, which its maker may ask for too. */
 static void look_at_law(struct run *run, uint64_t x, uint64_t y) {
-    uint32_t law = 77, most = 77;
+    tg_vertex_law law = { 77, 77 };
     uint64_t rights = 0;
     const uint32_t wanted = (uint32_t)((y - WORKERS) % 4);
     say(run, "law");
     if (y < WORKERS || y >= run->made || tg_label(store_of(run), x, y, &rights) != TG_DONE)
         return;
-    want(run, tg_law(store_of(run), x, y, &law, &most) == TG_DONE, "a law");
+    want(run, tg_law(store_of(run), x, y, &law) == TG_DONE, "a law");
     const int is_shown = (rights & (TG_READ | TG_WRITE | TG_APPEND)) != 0;
-    want(run, law == (is_shown ? wanted : TG_NO_LAW) && most == (is_shown && wanted == TG_LOG ? 4 : 0), "another law");
+    want(run, law.law == (is_shown ? wanted : TG_NO_LAW) && law.most == (is_shown && wanted == TG_LOG ? 4 : 0), "another law");
     const long before = refused;
-    const tg_status status = tg_law_of(store_of(run), y, &law, &most);
+    const tg_status status = tg_law_of(store_of(run), y, &law);
     want(run, status == TG_DONE || (status == TG_OUT_OF_MEMORY && refused > before), "a law for the host");
-    want(run, law == wanted || (!is_shown && law == TG_NO_LAW), "another law for the host");
+    want(run, law.law == wanted || (!is_shown && law.law == TG_NO_LAW), "another law for the host");
 }
 
 /* The entries of a parking, as the store has them. Their number is that of the edges twice, and three. */

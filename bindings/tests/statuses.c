@@ -762,11 +762,11 @@ static void parked_in_a_full_heap(void) {
 
 /* That a law is reported to the worker and to the host, each of whom may get TG_NO_LAW. */
 static void is_law(tg_store *store, uint64_t name, uint32_t wanted, uint32_t kept, uint32_t wanted_by_host) {
-    uint32_t law = 77, most = 77;
+    tg_vertex_law law = { 77, 77 };
     const uint64_t before = entries_of(store);
-    WANT(tg_law(store, 1, name, &law, &most) == TG_DONE && law == wanted && most == (wanted == TG_LOG ? kept : 0));
-    law = most = 77;
-    WANT(tg_law_of(store, name, &law, &most) == TG_DONE && law == wanted_by_host && most == (wanted_by_host == TG_LOG ? kept : 0));
+    WANT(tg_law(store, 1, name, &law) == TG_DONE && law.law == wanted && law.most == (wanted == TG_LOG ? kept : 0));
+    law = (tg_vertex_law){ 77, 77 };
+    WANT(tg_law_of(store, name, &law) == TG_DONE && law.law == wanted_by_host && law.most == (wanted_by_host == TG_LOG ? kept : 0));
     WANT(entries_of(store) == before);
 }
 
@@ -774,12 +774,12 @@ static void is_law(tg_store *store, uint64_t name, uint32_t wanted, uint32_t kep
 static void laws_are_shown(void) {
     const tg_value kinds[4] = { cell, sum, greatest, last_two };
     tg_store store = TG_STORE_INIT;
-    uint32_t law = 77, most = 77;
+    tg_vertex_law law = { 77, 77 };
     uint64_t name, count;
-    WANT(tg_law(&store, 1, 2, &law, &most) == TG_NOT_OPEN && tg_law_of(&store, 2, &law, &most) == TG_NOT_OPEN);
+    WANT(tg_law(&store, 1, 2, &law) == TG_NOT_OPEN && tg_law_of(&store, 2, &law) == TG_NOT_OPEN);
     WANT(tg_open(&store, workers, 2, edges, 2, &limits) == TG_DONE);
-    WANT(tg_law(&store, 2, 0, &law, &most) == TG_NO_SUCH_WORKER && tg_law(&store, UINT64_MAX, 0, &law, &most) == TG_NO_SUCH_WORKER);
-    WANT(law == 77 && most == 77);
+    WANT(tg_law(&store, 2, 0, &law) == TG_NO_SUCH_WORKER && tg_law(&store, UINT64_MAX, 0, &law) == TG_NO_SUCH_WORKER);
+    WANT(law.law == 77 && law.most == 77);
     for (uint32_t i = 0; i < 4; i++) {
         WANT(tg_create(&store, 0, 255, &kinds[i], &name) == TG_DONE && name == 2 + i);
         is_law(&store, name, TG_NO_LAW, 2, i);

@@ -148,7 +148,7 @@ PyObject *decided(struct state *state, tg_status status, const tg_denial *denial
 PyObject *counted(struct state *state, tg_status status, uint64_t number, const uint64_t *worker);
 
 /* A pair of the number of a law and how many numbers a log keeps, or None for TG_NO_LAW. */
-PyObject *law_told(uint32_t law, uint32_t most);
+PyObject *law_told(const tg_vertex_law *law);
 
 PyObject *numbers_told(const uint64_t *numbers, uint64_t count);
 PyObject *set_told(const uint64_t *numbers, uint64_t count);

@@ -196,23 +196,23 @@ static PyObject *store_label(PyObject *it, PyObject *const *words, Py_ssize_t co
 static PyObject *store_law(PyObject *it, PyObject *const *words, Py_ssize_t count) {
     struct store *self = (struct store *)it;
     uint64_t asked[MOST_ASKED];
-    uint32_t law = TG_NO_LAW, most = 0;
+    tg_vertex_law law = { TG_NO_LAW, 0 };
     if (!numbers_of(self->state, words, count, asked, 2) || !wait_for_others(self->state))
         return NULL;
-    tg_status status = self->state->library.law(&self->place, asked[0], asked[1], &law, &most);
-    return status == TG_DONE ? law_told(law, most) : refused(self->state, status, asked, NULL);
+    tg_status status = self->state->library.law(&self->place, asked[0], asked[1], &law);
+    return status == TG_DONE ? law_told(&law) : refused(self->state, status, asked, NULL);
 }
 
 static PyObject *store_law_of(PyObject *it, PyObject *const *words, Py_ssize_t count) {
     struct store *self = (struct store *)it;
     uint64_t name;
-    uint32_t law = TG_NO_LAW, most = 0;
+    tg_vertex_law law = { TG_NO_LAW, 0 };
     if (!numbers_of(self->state, words, count, &name, 1) || !begin_long(self->state))
         return NULL;
-    tg_status status = self->state->library.law_of(&self->place, name, &law, &most);
+    tg_status status = self->state->library.law_of(&self->place, name, &law);
     if (!end_long(self->state))
         return NULL;
-    return status == TG_DONE ? law_told(law, most) : refused(self->state, status, NULL, NULL);
+    return status == TG_DONE ? law_told(&law) : refused(self->state, status, NULL, NULL);
 }
 
 static PyObject *store_subjects(PyObject *it, PyObject *unused) {

@@ -82,6 +82,12 @@ class Handing(ctypes.Structure):
     ]
 
 
+class VertexLaw(ctypes.Structure):
+    """The law by which a vertex stores numbers, or none."""
+
+    _fields_ = [("law", c_uint32), ("most", c_uint32)]
+
+
 class Parking(ctypes.Structure):
     """A user whom a host parks."""
 
@@ -553,12 +559,12 @@ class Store(_Place):
 
     def _law(self, function: Function, *words: object, worker: Optional[int] = None) -> Optional[Tuple[int, int]]:
         """Makes a call that answers a law."""
-        law, most = c_uint32(), c_uint32()
+        told = VertexLaw()
         with LOCK:
-            status = function(self._at, *words, byref(law), byref(most))
+            status = function(self._at, *words, byref(told))
         if status:
             raise refusal(status, worker)
-        return None if law.value == NO_LAW else (law.value, most.value)
+        return None if told.law == NO_LAW else (told.law, told.most)
 
     def could(
         self, silent: bytes, as_if: bytes, x: int, right: int, y: int

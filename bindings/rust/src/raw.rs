@@ -103,14 +103,21 @@ impl Value {
     }
 }
 
-impl Law {
-    /// The law with this number, of which a log keeps so many numbers. There is none for any other number.
-    pub fn told(law: u32, most: u32) -> Option<Law> {
-        match law {
+#[repr(C)]
+#[derive(Default)]
+pub struct RawLaw {
+    law: u32,
+    most: u32,
+}
+
+impl RawLaw {
+    /// The law, or none if the number is that of none.
+    pub fn told(&self) -> Option<Law> {
+        match self.law {
             CELL => Some(Law::Cell),
             SUM => Some(Law::Sum),
             MAX => Some(Law::Max),
-            LOG => Some(Law::Log(most)),
+            LOG => Some(Law::Log(self.most)),
             _ => None,
         }
     }
@@ -278,8 +285,8 @@ extern "C" {
         done: &mut u64,
     ) -> u32;
     pub fn tg_label(store: *mut RawStore, worker: u64, target: u64, rights: &mut u64) -> u32;
-    pub fn tg_law(store: *mut RawStore, worker: u64, target: u64, law: &mut u32, most: &mut u32) -> u32;
-    pub fn tg_law_of(store: *mut RawStore, name: u64, law: &mut u32, most: &mut u32) -> u32;
+    pub fn tg_law(store: *mut RawStore, worker: u64, target: u64, out: &mut RawLaw) -> u32;
+    pub fn tg_law_of(store: *mut RawStore, name: u64, out: &mut RawLaw) -> u32;
     pub fn tg_collect(store: *mut RawStore, kind: u32, left: &mut u64) -> u32;
     pub fn tg_census(store: *mut RawStore, counts: &mut Counts) -> u32;
     pub fn tg_names(store: *mut RawStore, names: *mut u64, room: usize, count: &mut u64) -> u32;

@@ -1,7 +1,7 @@
 //! An open store.
 use crate::error::{decided, served};
 use crate::marks::Marks;
-use crate::raw::{self, RawDenial, RawEdge, RawHanding, RawRecord, RawStore, RawTarget, RawValue};
+use crate::raw::{self, RawDenial, RawEdge, RawHanding, RawLaw, RawRecord, RawStore, RawTarget, RawValue};
 use crate::{Counts, Edge, Entry, Error, Hand, Journal, Kind, Law, Limits, Parking, Rights, Snapshot, Target, Value};
 use std::cell::UnsafeCell;
 use std::fmt;
@@ -449,17 +449,17 @@ impl Store {
     /// # Ok::<(), Error>(())
     /// ```
     pub fn law(&self, worker: u64, target: u64) -> Result<Option<Law>, Error> {
-        let (mut law, mut most) = (0, 0);
-        served(unsafe { raw::tg_law(self.at(), worker, target, &mut law, &mut most) })?;
-        Ok(Law::told(law, most))
+        let mut law = RawLaw::default();
+        served(unsafe { raw::tg_law(self.at(), worker, target, &mut law) })?;
+        Ok(law.told())
     }
 
     /// Returns the law of the vertex with this name, whoever has rights over it. So it is for the host. It is `None` if the name was
     /// never made, and if no worker reaches the vertex, whether it was collected or not. The journal gets no entry.
     pub fn law_of(&self, name: u64) -> Result<Option<Law>, Error> {
-        let (mut law, mut most) = (0, 0);
-        served(unsafe { raw::tg_law_of(self.at(), name, &mut law, &mut most) })?;
-        Ok(Law::told(law, most))
+        let mut law = RawLaw::default();
+        served(unsafe { raw::tg_law_of(self.at(), name, &mut law) })?;
+        Ok(law.told())
     }
 
     /// Collects, and returns how many vertices the heap then has.

@@ -4,6 +4,7 @@ use Rattle.tg_model.specs.Graph.{ProtectionGraph, IsReachable, IsSubject}
 use Rattle.tg_model.specs.declared.law.Law.{Law}
 use Rattle.tg_store.specs.Seeing.{ReportsLaw, has_value_right}
 use Rattle.tg_store.specs.Store.{StoreState, StandsFor}
+use Rattle.tg_c.specs.declared.forms.LawOut.{LawOut}
 use Rattle.tg_c.specs.declared.place.StorePlace.{StorePlace}
 use Rattle.tg_c.specs.declared.refusal.CallRefusal.{CallRefusal}
 use Rattle.tg_c.specs.declared.refusal.CallRefusal.TheVariants as refusal
@@ -31,18 +32,10 @@ abbrev pub AsksLawOf : StorePlace → StorePlace → ℕ → (Result (Option Law
 AsksLawOf old new name = IsCall (λ why. why) (IsLawOf name) old new
 
 -- the number of a law, and how many numbers a log keeps; 15 reports no law
-abbrev pub law_shown : Option Law → ℕ × ℕ
-law_shown None = (15, 0)
-law_shown (Some of) = law_out of
+abbrev pub law_told : Option Law → LawOut
+law_told None = record { law = 15; most = 0 }
+law_told (Some of) = record { law = (law_out of).0; most = (law_out of).1 }
 
--- the out parameters of a call for a law
-pub record LawRoom : Type 0 where
-  pub law : ℕ
-  pub most : ℕ
-
-abbrev pub law_room : ℕ → ℕ → LawRoom
-law_room law most = record { law = law; most = most }
-
-abbrev pub TellsLaw : ℕ → LawRoom → LawRoom → Result (Option Law) CallRefusal → Type 0
-TellsLaw status old new (Ok found) = (status ≡ 0) × (new ≡ record { law = (law_shown found).0; most = (law_shown found).1 })
+abbrev pub TellsLaw : ℕ → LawOut → LawOut → Result (Option Law) CallRefusal → Type 0
+TellsLaw status old new (Ok found) = (status ≡ 0) × (new ≡ law_told found)
 TellsLaw status old new (Err why) = (status ≡ status_of why) × (new ≡ old)

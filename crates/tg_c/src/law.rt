@@ -1,7 +1,8 @@
 //! Which law a vertex stores numbers by, for a worker and for the host.
 ghost use Rattle.std.specs.Prelude.{◌≡◌};
-ghost use Rattle.tg_c.specs.Laws.{AsksLawOf, AsksLawTo, TellsLaw, law_room, law_shown as law_told};
+ghost use Rattle.tg_c.specs.Laws.{AsksLawOf, AsksLawTo, TellsLaw, law_told as law_in_numbers};
 
+use crate::forms::LawOut;
 use crate::held::Holder;
 use crate::place::StorePlace;
 use crate::records::law_out;
@@ -33,27 +34,26 @@ pub fn law_for_host(
     place.with_open(alloc, |opened| opened.law_to_host(alloc, name))?
 }
 
-/// Reports the number of a law, and how many numbers a log keeps. Returns the status.
-pub fn tell_law(answer: Result<Option<Law>, CallRefusal>, law: &mut u32, most: &mut u32) -> u32
-    ensures { TellsLaw result (law_room law.old most.old) (law_room law.new most.new) answer }
+/// Reports a law, or that there is none. Returns the status.
+pub fn tell_law(answer: Result<Option<Law>, CallRefusal>, out: &mut LawOut) -> u32
+    ensures { TellsLaw result out.old out.new answer }
 {
     match answer {
-        Ok(found) => {
-            let (number, kept) = law_shown(found);
-            *law = number;
-            *most = kept;
+        Ok(law) => {
+            *out = law_told(law);
             DONE
         }
         Err(refusal) => refusal.status(),
     }
 }
 
-// The number of a law, and how many numbers are kept, of a log alone. 15 reports no law.
-fn law_shown(law: Option<Law>) -> (u32, u32)
-    ensures { result ≡ law_told law }
+// The law, for C.
+fn law_told(law: Option<Law>) -> LawOut
+    ensures { result ≡ law_in_numbers law }
 {
-    match law {
+    let (law, most) = match law {
         Some(law) => law_out(law),
         None => (15, 0),
-    }
+    };
+    LawOut { law, most }
 }
