@@ -8,8 +8,8 @@
 
    Each call whose type is tg_status returns a status. The library's exports have contracts, which are proved
    (crates/tg_c/specs). They say what TG_DONE and TG_DENIED mean, and when each refusal comes, with two exceptions.
-   TG_OUT_OF_MEMORY may come from each call that needs memory. TG_HEAP_FULL comes only where the limits may leave no room. Only of
-   tg_open is it proved too that it comes there.
+   TG_OUT_OF_MEMORY may come from each call that needs memory. TG_HEAP_FULL comes only where the limits may leave no room, which of
+   tg_park isn't proved. Only of tg_open is it proved too that it comes there.
    The files kovshenul.c, naming.c and showing.c come before the exports, and are tested and not proved. They have the use of
    NULL, tg_apply_all (which makes proved calls one after the other), the texts, tg_snapshot_next and tg_version. Nothing checks
    what this header asks of its caller.
@@ -100,8 +100,8 @@ enum {
     TG_ALREADY_OPEN = 17,     /* exactly where what is to be opened is open; tg_could, tg_view_open: where the answer or view is open, and no bits are bad */
 
     TG_OUT_OF_MEMORY = 32,    /* malloc or realloc returned no memory. Make the same call again. It may come in the place of
-                                 TG_HEAP_FULL (but of tg_open), TG_VERTICES_FULL, TG_WORKERS_FULL, TG_BAD_ENTRY, TG_BAD_VALUES of
-                                 tg_snapshot_read, and TG_BAD_EDGE of a supposed edge */
+                                 TG_HEAP_FULL (but of tg_open), TG_VERTICES_FULL, TG_WORKERS_FULL, TG_IN_USE, TG_BAD_ENTRY,
+                                 TG_BAD_VALUES of tg_snapshot_read, and TG_BAD_EDGE of a supposed edge */
     TG_HEAP_FULL = 33,        /* the limits leave no cell or block. Call tg_collect, and try again */
     TG_VERTICES_FULL = 34,    /* tg_create, tg_spawn: max_vertices were made. The journal has an entry of it */
     TG_WORKERS_FULL = 35,     /* tg_spawn: 64 workers are active, and a vertex may be made. The journal has an entry of it */
