@@ -747,7 +747,6 @@ static void parked_in_a_full_heap(void) {
         made++;
     WANT(made > 0);
     is_refused_parking(&store, (tg_parking){ 0, 1, account }, TG_HEAP_FULL);
-    WANT(tg_collect(&store, TG_NURSERY, &count) == TG_DONE);
     for (uint64_t i = 0; i < made; i++)
         WANT(tg_label(&store, 1, account + 1 + i, &rights) == TG_DONE && rights == TG_READ);
     WANT(tg_who_holds(&store, TG_READ, account + 1, &name, 1, &count) == TG_DONE && count == 1 && name == 1);
