@@ -1,4 +1,4 @@
-use Rattle.std.proofs.Common.{refl, rules, sym, subst}
+use Rattle.std.proofs.Common.{refl, rules, subst}
 use Rattle.tg_model.specs.Graph.{ProtectionGraph, IsSubject}
 use Rattle.tg_store.specs.Store.{graph_of_store}
 use Rattle.tg_c.proofs.law_store.LawStore.law_to.Goals as goal
