@@ -14,6 +14,7 @@ tg_status proved_tg_grant(tg_store *store, uint64_t worker, uint64_t via, uint64
                           tg_denial *denial);
 tg_status proved_tg_remove(tg_store *store, uint64_t worker, uint64_t target, uint64_t rights, tg_denial *denial);
 tg_status proved_tg_hand(tg_store *store, const tg_handing *handing, uint64_t *removed, tg_denial *denial);
+tg_status proved_tg_park(tg_store *store, const tg_parking *parking, uint64_t *edges, tg_denial *denial);
 tg_status proved_tg_write(tg_store *store, uint64_t worker, uint64_t target, uint64_t value, tg_denial *denial);
 tg_status proved_tg_append(tg_store *store, uint64_t worker, uint64_t target, uint64_t value, tg_denial *denial);
 tg_status proved_tg_read(tg_store *store, uint64_t worker, uint64_t target, uint64_t *numbers, size_t room, uint64_t *count,
@@ -81,6 +82,11 @@ tg_status tg_hand(tg_store *store, const tg_handing *handing, uint64_t *removed,
     tg_denial unwanted;
     uint64_t none;
     return proved_tg_hand(store, handing, removed == NULL ? &none : removed, denial == NULL ? &unwanted : denial);
+}
+
+tg_status tg_park(tg_store *store, const tg_parking *parking, uint64_t *edges, tg_denial *denial) {
+    tg_denial unwanted;
+    return proved_tg_park(store, parking, edges, denial == NULL ? &unwanted : denial);
 }
 
 tg_status tg_write(tg_store *store, uint64_t worker, uint64_t target, uint64_t value, tg_denial *denial) {
@@ -345,6 +351,9 @@ const char *tg_status_text(tg_status status) {
     case TG_WORKERS_FULL: return "64 workers are active, and no more may be";
     case TG_NO_SUCH_WORKER:
         return "no such worker: no active subject has the name, of the one who asks or of a silent one";
+    case TG_IN_USE:
+        return "the account is in use: it holds some right, or the user holds a right over it; make a new object, over "
+               "which the host alone has rights";
     case TG_BAD_RIGHTS:
         return "bad rights: none, a bit that is no right, several where one is asked about, or letters "
                "that are not in the order rwtgaluv";

@@ -8,8 +8,8 @@
 
    Each call whose type is tg_status returns a status. The library's exports have contracts, which are proved
    (crates/tg_c/specs). They say what TG_DONE and TG_DENIED mean, and when each refusal comes, with two exceptions.
-   TG_OUT_OF_MEMORY may come from each call that needs memory. TG_HEAP_FULL comes only where the limits may leave no room. Only of
-   tg_open is it proved too that it comes there.
+   TG_OUT_OF_MEMORY may come from each call that needs memory. TG_HEAP_FULL comes only where the limits may leave no room, which of
+   tg_park isn't proved. Only of tg_open is it proved too that it comes there.
    The files kovshenul.c, naming.c and showing.c come before the exports, and are tested and not proved. They have the use of
    NULL, tg_apply_all (which makes proved calls one after the other), the texts, tg_snapshot_next and tg_version. Nothing checks
    what this header asks of its caller.
@@ -102,13 +102,14 @@ enum {
                                  no bits are bad */
 
     TG_OUT_OF_MEMORY = 32,    /* malloc or realloc returned no memory. Make the same call again. It may come in the place of
-                                 TG_HEAP_FULL (but of tg_open), TG_VERTICES_FULL, TG_WORKERS_FULL, TG_BAD_ENTRY, TG_BAD_VALUES of
-                                 tg_snapshot_read, and TG_BAD_EDGE of a supposed edge */
+                                 TG_HEAP_FULL (but of tg_open), TG_VERTICES_FULL, TG_WORKERS_FULL, TG_IN_USE, TG_BAD_ENTRY,
+                                 TG_BAD_VALUES of tg_snapshot_read, and TG_BAD_EDGE of a supposed edge */
     TG_HEAP_FULL = 33,        /* the limits leave no cell or block. Call tg_collect, and try again */
     TG_VERTICES_FULL = 34,    /* tg_create, tg_spawn: max_vertices were made. The journal has an entry of it */
     TG_WORKERS_FULL = 35,     /* tg_spawn: 64 workers are active, and a vertex may be made. The journal has an entry of it */
 
     TG_NO_SUCH_WORKER = 48,   /* exactly where the store is open, no worker has the name, and no argument is TG_BAD_.. */
+    TG_IN_USE = 49,           /* tg_park: the account holds some right already, or the user holds a right over it */
 
     TG_BAD_RIGHTS = 64,       /* no right, or a bit that is no right. Several rights, if one is asked about. tg_rights_read: other
                                  letters */
@@ -136,7 +137,8 @@ enum {
     TG_CELL = 0,              /* keeps the last number */
     TG_SUM = 1,               /* adds, modulo 2^64 */
     TG_MAX = 2,               /* keeps the greatest */
-    TG_LOG = 3                /* keeps the last few, oldest first */
+    TG_LOG = 3,               /* keeps the last few, oldest first */
+    TG_NO_LAW = 15            /* of tg_law and tg_law_of alone: there is no law to report */
 };
 
 /* The law of a vertex, and the numbers that it stores at first. 16 bytes. */
@@ -145,6 +147,12 @@ typedef struct tg_value {
     uint32_t most;            /* of a log only, how many numbers it keeps, from 1 to 64. It begins empty */
     uint64_t number;          /* of the other laws, the first number */
 } tg_value;
+
+/* The law by which a vertex stores numbers, for tg_law and tg_law_of: 8 bytes. */
+typedef struct tg_vertex_law {
+    uint32_t law;             /* TG_CELL .. TG_LOG, or TG_NO_LAW */
+    uint32_t most;            /* of a log: how many numbers it keeps. Of all else it is 0 */
+} tg_vertex_law;
 
 /* Rights of worker `from` over worker `to`, at the opening: 24 bytes. */
 typedef struct tg_edge {
@@ -158,6 +166,13 @@ typedef struct tg_handing {
     uint64_t target;          /* the vertex that the rights are over */
     uint64_t rights;
 } tg_handing;
+
+/* A user whom a host parks, for tg_park: 24 bytes. */
+typedef struct tg_parking {
+    uint64_t host;            /* the worker that has g over the user and over the account */
+    uint64_t user;            /* the worker that leaves */
+    uint64_t account;         /* the vertex that is to hold what the user holds */
+} tg_parking;
 
 /* The limits of a store: 24 bytes. */
 typedef struct tg_limits {
@@ -348,6 +363,26 @@ tg_status tg_retire(tg_store *store, uint64_t worker);
    still (tg_who_holds). */
 tg_status tg_leave(tg_store *store, uint64_t worker, uint64_t *count);
 
+/* Parks a user. What the user holds goes into the account, and the user leaves, completely or not at all. Afterwards the account
+   holds exactly what the user held, the user holds nothing and is no worker, and all other labels are as they were. Edges to the
+   user stay, and what the user stored is lost with its vertex. How many edges the user had goes to *edges. `denial` may be NULL.
+
+   The account is a vertex that holds nothing, such as an object that the host has just made. The host has g over the user and over
+   the account. It needs t over the account too if a worker is to take everything out later (docs/RECIPES.md). Whoever else has t
+   over the account can take what it holds, so let the host alone have rights over it.
+
+   Each command has an entry of its own, as if its worker had asked for it. The host grants the user g over the account. The user
+   grants the account each of its edges, by rising name, and removes its g. Then it leaves, as by tg_leave. So there are two entries
+   for each edge, and three more.
+
+   The host's grant is decided first. It is denied if the host, the user and the account aren't three vertices, or if the host has no
+   g over the user or over the account, as over a name that was never made. After TG_DENIED this grant has the only entry.
+
+   It is refused in this order: TG_NOT_OPEN, TG_NO_SUCH_WORKER exactly where the host or the user is no worker, TG_OUT_OF_MEMORY,
+   TG_IN_USE, and TG_OUT_OF_MEMORY or TG_HEAP_FULL where the account's edges find no room. There is no entry then, and all labels,
+   values and workers are as they were. The room for all entries is made before the grant is decided, with 160 bytes for each edge. */
+tg_status tg_park(tg_store *store, const tg_parking *parking, uint64_t *edges, tg_denial *denial);
+
 /* Lists who holds one right over the vertex with this name: workers, objects, and workers that retired, of all that a worker
    reaches. The first `room` of their names go to names, by rising name. How many there are goes to *count. The answer is the
    same before and after a collection. The journal gets no entry. Time and memory follow what the workers reach. TG_BAD_RIGHTS
@@ -421,6 +456,15 @@ tg_status tg_apply_all(tg_store *store, uint64_t worker, const tg_command *comma
    name that was never made, and over a vertex that was collected. The journal gets no entry, and no memory is taken. So a host
    asks by this call which rights a worker has, and limits how often a worker that it doesn't trust may list. */
 tg_status tg_label(tg_store *store, uint64_t worker, uint64_t target, uint64_t *rights);
+
+/* Writes the law by which the target stores numbers to *out, if the worker has r, w or a over the target. If it has none of these
+   rights, out->law is TG_NO_LAW. The journal gets no entry, and no memory is taken. The law of a vertex never changes. */
+tg_status tg_law(tg_store *store, uint64_t worker, uint64_t target, tg_vertex_law *out);
+
+/* Writes the law of the vertex with this name to *out, whoever has rights over it. So it is for the host. out->law is TG_NO_LAW if the
+   name was never made, and if no worker reaches the vertex, whether it was collected or not. The journal gets no entry. Time and
+   memory follow what the workers reach. */
+tg_status tg_law_of(tg_store *store, uint64_t name, tg_vertex_law *out);
 
 /* Collects, by TG_FULL or TG_NURSERY. How many vertices the heap then has goes to *left. No reply and no right changes. */
 tg_status tg_collect(tg_store *store, uint32_t kind, uint64_t *left);

@@ -45,10 +45,22 @@ def end(store, client):
         store.remove(HOST, client, over)
 
 
-def log_in(store, home):
-    """A subject for the user with this home: an object in which the user's rights are parked."""
+def log_out(store, user):
+    """Parks a user who logs out. Returns the account, which holds all that the user held."""
+    account = store.create(HOST, TAKE | GRANT | INSPECT, Cell(0))
+    store.park(HOST, user, account)
+    store.remove(HOST, user, TAKE | GRANT)
+    return account
+
+
+def log_in(store, account):
+    """A subject for a user who comes back. It holds all that the account holds, and the account is given up."""
     user = store.spawn(HOST, TAKE | GRANT, Cell(0))
-    store.grant(HOST, user, home, TAKE | GRANT | INSPECT)
+    store.grant(HOST, user, account, TAKE)
+    for target in store.inspect(HOST, account):
+        store.take(user, account, target.to, target.rights)
+    store.remove(user, account, TAKE)
+    store.remove(HOST, account, TAKE | GRANT | INSPECT)
     return user
 
 
@@ -98,15 +110,13 @@ def run_of_plugins(store):
 
 def run_of_users(store):
     """A user who comes back."""
-    home = store.create(HOST, TAKE | GRANT | INSPECT, Cell(0))
-    user = log_in(store, home)
+    user = store.spawn(HOST, TAKE | GRANT, Cell(0))
     letter = store.create(user, READ | WRITE, Cell(5))
-    store.grant(user, home, letter, READ | WRITE)
-    end(store, user)
-    user = log_in(store, home)
-    for target in store.inspect(user, home):
-        store.take(user, home, target.to, target.rights)
-    show("came back", store.read(user, letter))
+    account = log_out(store, user)
+    show("while the user is away", [rights.letters for _, _, rights in store.edges_to(letter)])
+    user = log_in(store, account)
+    show("came back", (store.label(user, letter).letters, store.read(user, letter)))
+    show("left of the account", store.edges_to(account))
 
 
 def run_of_a_team(store):

@@ -186,6 +186,29 @@ static uint64_t tell_story(void) {
         stop(__LINE__, 0);
     CALL(tg_retire(&store, name));
     CALL(tg_remove(&store, 0, name, TG_GRANT, &why));
+    /* A user is parked. Its account holds what it held. The law of what is stored is looked up by a walk. */
+    uint64_t account;
+    CALL(tg_spawn(&store, 0, TG_GRANT, &kinds[1], &name));
+    CALL(tg_list(&store, 0, row, 64, &count));
+    for (uint64_t i = 0; i < count; i++)
+        if ((row[i].rights & TG_READ) != 0)
+            CALL(tg_grant(&store, 0, name, row[i].to, TG_READ, &why));
+    CALL(tg_create(&store, 0, TG_GRANT | TG_TAKE, &kinds[3], &account));
+    const tg_parking parking = { 0, name, account };
+    CALL(tg_park(&store, &parking, &count, &why));
+    if (count != 8)
+        stop(__LINE__, 0);
+    CALL(tg_edges_to(&store, 2, holders, 8, &count));
+    if (count != 2 || holders[1].to != account)
+        stop(__LINE__, 0);
+    tg_vertex_law law;
+    CALL(tg_law_of(&store, account, &law));
+    if (law.law != TG_LOG || law.most != 4)
+        stop(__LINE__, 0);
+    before = made;
+    CALL(tg_law(&store, 0, 2, &law));
+    if (law.law != TG_LOG || law.most != 2 || made != before)
+        stop(__LINE__, 0);
     /* A question as if 1 had a right over the worker. The answer outlives the store. */
     const tg_edge supposed = { 1, 0, TG_TAKE };
     tg_answer answer = TG_ANSWER_INIT;

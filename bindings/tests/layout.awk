@@ -2,7 +2,7 @@
 # offsets. Each export has the same parameters, and each constant has the number that the contracts give it.
 #
 # It reads the exports in crates/tg_exports/src, and the structs of numbers and the places in crates/tg_c/src. After them it reads Forms.antt,
-# Records.antt, Could.antt and View.antt of crates/tg_c/specs, then crates/tg_model/specs/Commands.antt and crates/tg_rights/specs/RightSet.antt.
+# Records.antt, Laws.antt, Could.antt and View.antt of crates/tg_c/specs, then crates/tg_model/specs/Commands.antt and crates/tg_rights/specs/RightSet.antt.
 
 function same(is, wanted) {
     printf "SAME(%s, %s);\n", is, wanted
@@ -59,7 +59,7 @@ BEGIN {
     types["u8"] = "char"; types["u32"] = "uint32_t"; types["u64"] = "uint64_t"; types["bool"] = "bool"
     types["EdgeIn"] = "tg_edge"; types["ValueIn"] = "tg_value"; types["LimitsIn"] = "tg_limits"
     types["DenialOut"] = "tg_denial"; types["EdgeOut"] = "tg_target"; types["CensusOut"] = "tg_counts"
-    types["RecordOut"] = "tg_record"; types["HandIn"] = "tg_handing"
+    types["RecordOut"] = "tg_record"; types["HandIn"] = "tg_handing"; types["ParkingIn"] = "tg_parking"; types["LawOut"] = "tg_vertex_law"
     types["StorePlace"] = "tg_store"; types["StoreHandle"] = "twin_StoreHandle"
     types["AnswerPlace"] = "tg_answer"; types["AnswerHandle"] = "twin_AnswerHandle"
     types["AuditorPlace"] = "tg_auditor"; types["AuditorHandle"] = "twin_AuditorHandle"
@@ -212,6 +212,9 @@ sum {
     sub(/^\(?law\./, "", name)
     same("TG_" capitals(name), number_after("= \\(", $0))
 }
+
+# of what is reported in the place of a law
+/^law_told None = / { same("TG_NO_LAW", number_after("law = ", $0)) }
 
 END {
     # as many as there are, so that a text that is written in another way isn't passed over

@@ -32,6 +32,10 @@ SAME(offsetof(tg_value, law), 0);
 SAME(offsetof(tg_value, most), 4);
 SAME(offsetof(tg_value, number), 8);
 
+SAME(sizeof(tg_vertex_law), 8);
+SAME(offsetof(tg_vertex_law, law), 0);
+SAME(offsetof(tg_vertex_law, most), 4);
+
 SAME(sizeof(tg_edge), 24);
 SAME(offsetof(tg_edge, from), 0);
 SAME(offsetof(tg_edge, to), 8);
@@ -43,6 +47,11 @@ SAME(offsetof(tg_handing, from), 8);
 SAME(offsetof(tg_handing, to), 16);
 SAME(offsetof(tg_handing, target), 24);
 SAME(offsetof(tg_handing, rights), 32);
+
+SAME(sizeof(tg_parking), 24);
+SAME(offsetof(tg_parking, host), 0);
+SAME(offsetof(tg_parking, user), 8);
+SAME(offsetof(tg_parking, account), 16);
 
 SAME(sizeof(tg_limits), 24);
 SAME(offsetof(tg_limits, max_vertices), 0);
@@ -119,6 +128,7 @@ SAME(TG_READ | TG_WRITE << 8 | TG_TAKE << 16 | TG_GRANT << 24, 0x08040201);
 SAME(TG_APPEND | TG_INSPECT << 8 | TG_FREE_U << 16, 0x402010);
 SAME(TG_FREE_V, 0x80);
 SAME(TG_CELL | TG_SUM << 8 | TG_MAX << 16 | TG_LOG << 24, 0x03020100);
+SAME(TG_NO_LAW, 0x0F);
 SAME(TG_RULE_TAKE | TG_RULE_GRANT << 8 | TG_RULE_REMOVE << 16 | TG_RULE_READ << 24, 0x03020100);
 SAME(TG_RULE_WRITE | TG_RULE_APPEND << 8 | TG_RULE_INSPECT << 16, 0x060504);
 SAME(TG_NOT_DISTINCT | TG_MISSING << 8 | TG_NOT_LOG << 16, 0x020100);

@@ -553,9 +553,10 @@ static void add_worker(struct run *run, uint64_t spawner, uint64_t name) {
     run->workers[run->active++] = (struct worker){ name, spawner };
 }
 
-static void make(struct run *run, int spawns) {
+/* A vertex that this one asks for. */
+static void make_by(struct run *run, int spawns, uint64_t x) {
     static const tg_value stock[4] = { { TG_CELL, 0, 0 }, { TG_SUM, 0, 0 }, { TG_MAX, 0, 0 }, { TG_LOG, 4, 0 } };
-    uint64_t x = one_who_asks(run), rights = below(run, 4) == 0 ? rights_of_some(run) : ALL_RIGHTS, name = UNTOUCHED;
+    uint64_t rights = below(run, 4) == 0 ? rights_of_some(run) : ALL_RIGHTS, name = UNTOUCHED;
     const tg_value *value = &stock[(run->made - WORKERS) % 4];
     char text[RIGHTS + 1];
     long before = refused;
@@ -571,9 +572,78 @@ static void make(struct run *run, int spawns) {
     run->made += is;
 }
 
+static void make(struct run *run, int spawns) {
+    make_by(run, spawns, one_who_asks(run));
+}
+
+/* A worker is one no more. */
+static void drop_worker(struct run *run, uint64_t name) {
+    uint64_t kept = 0;
+    for (uint64_t i = 0; i < run->active; i++)
+        if (run->workers[i].name != name)
+            run->workers[kept++] = run->workers[i];
+    want(run, kept + 1 == run->active, "one retires who was no worker");
+    run->active = kept;
+}
+
+/* The law of a vertex is that of the stock, which its maker may ask for too. */
+static void look_at_law(struct run *run, uint64_t x, uint64_t y) {
+    tg_vertex_law law = { 77, 77 };
+    uint64_t rights = 0;
+    const uint32_t wanted = (uint32_t)((y - WORKERS) % 4);
+    say(run, "law");
+    if (y < WORKERS || y >= run->made || tg_label(store_of(run), x, y, &rights) != TG_DONE)
+        return;
+    want(run, tg_law(store_of(run), x, y, &law) == TG_DONE, "a law");
+    const int is_shown = (rights & (TG_READ | TG_WRITE | TG_APPEND)) != 0;
+    want(run, law.law == (is_shown ? wanted : TG_NO_LAW) && law.most == (is_shown && wanted == TG_LOG ? 4 : 0), "another law");
+    const long before = refused;
+    const tg_status status = tg_law_of(store_of(run), y, &law);
+    want(run, status == TG_DONE || (status == TG_OUT_OF_MEMORY && refused > before), "a law for the host");
+    want(run, law.law == wanted || (!is_shown && law.law == TG_NO_LAW), "another law for the host");
+}
+
+/* The entries of a parking, as the store has them. Their number is that of the edges twice, and three. */
+static void put_parking(struct run *run, uint64_t from, uint64_t edges) {
+    tg_store *store = store_of(run);
+    const uint64_t upto = next_entry(run, store);
+    tg_record entry;
+    want(run, upto == from + 2 * edges + 3, "the entries of a parking");
+    for (uint64_t at = from; at < upto; at++) {
+        want(run, tg_entry(store, at, &entry, NULL, 0, NULL, 0) == TG_DONE, "an entry of a parking");
+        say_entry(run, &entry);
+        run->answered++;
+        put_reply(run, &entry, NULL);
+    }
+}
+
+/* One of those after the three oldest is parked by its spawner, mostly in an account that is made for it. The script has the commands,
+   or of a denied parking the host's grant. */
+static void park_some(struct run *run) {
+    if (run->active <= WORKERS)
+        return;
+    const struct worker user = run->workers[WORKERS + below(run, run->active - WORKERS)];
+    if (below(run, 4) > 0)
+        make_by(run, 0, user.neighbour);
+    const tg_parking it = { user.neighbour, user.name, below(run, 8) == 0 ? name_of_some(run) : run->made - 1 };
+    tg_store *store = store_of(run);
+    uint64_t edges = UNTOUCHED;
+    const uint64_t entries = next_entry(run, store);
+    const long before = refused;
+    say(run, "%" PRIu64 " grant %" PRIu64 " %" PRIu64 " g", it.host, it.user, it.account);
+    const tg_status status = tg_park(store, &it, &edges, &run->why);
+    want(run, (status == TG_DONE) == (edges != UNTOUCHED), "a count of what isn't parked");
+    if (status == TG_DONE) {
+        put_parking(run, entries, edges);
+        drop_worker(run, it.user);
+    } else if (status != TG_IN_USE && status != TG_NO_SUCH_WORKER)
+        is_done(run, status, before);
+    else
+        want(run, next_entry(run, store) == entries, "an entry of a parking that is refused");
+}
+
 /* One of those after the three oldest mostly. The last three stay. */
 static void retire(struct run *run) {
-    uint64_t kept = 0;
     long before = refused;
     if (run->active <= WORKERS)
         return;
@@ -583,11 +653,7 @@ static void retire(struct run *run) {
     if (!is_done(run, tg_retire(store_of(run), x), before))
         return;
     fputs("ok\n", run->replies);
-    for (uint64_t i = 0; i < run->active; i++)
-        if (run->workers[i].name != x)
-            run->workers[kept++] = run->workers[i];
-    want(run, kept + 1 == run->active, "one retires who was no worker");
-    run->active = kept;
+    drop_worker(run, x);
 }
 
 /* The names of the workers, which are in no script. They are workers that were spawned and haven't retired, as many as there is
@@ -713,10 +779,14 @@ static void command(struct run *run) {
         make(run, 0);
     else if (which < 90)
         make(run, 1);
-    else if (which < 97)
+    else if (which < 95)
         retire(run);
-    else if (which < 100)
+    else if (which < 97)
+        park_some(run);
+    else if (which < 99)
         look_at_workers(run);
+    else if (which < 100)
+        look_at_law(run, name_of_worker(run), name_of_some(run));
     else if (which < 540)
         take_or_grant(run, which % 2 == 0);
     else if (which < 620)

@@ -663,6 +663,147 @@ static void rights_are_withdrawn(void) {
     WANT(tg_close(&store) == TG_DONE);
 }
 
+/* That the parking is denied, on this edge or for a vertex that is named twice, with the host's grant as the only entry. */
+static void is_denied_parking(tg_store *store, tg_parking parking, tg_denial wanted) {
+    const uint64_t before = entries_of(store);
+    uint64_t count = UNTOUCHED;
+    tg_record entry;
+    why = (tg_denial){ 99, 99, 99, 99, 99 };
+    WANT(tg_park(store, &parking, &count, &why) == TG_DENIED && count == UNTOUCHED && memcmp(&why, &wanted, sizeof why) == 0);
+    WANT(entries_of(store) == before + 1 && tg_entry(store, before, &entry, NULL, 0, NULL, 0) == TG_DONE);
+    WANT(entry.worker == parking.host && entry.deed == TG_DEED_GRANT && entry.via == parking.user && entry.target == parking.account);
+    WANT(entry.rights == TG_GRANT && entry.reply == TG_REPLY_DENIED && memcmp(&entry.denial, &wanted, sizeof why) == 0);
+}
+
+/* That the parking is refused, with no entry. */
+static void is_refused_parking(tg_store *store, tg_parking parking, tg_status status) {
+    const uint64_t before = store->is_open ? entries_of(store) : 0;
+    uint64_t count = UNTOUCHED;
+    why = (tg_denial){ 99, 99, 99, 99, 99 };
+    WANT(tg_park(store, &parking, &count, &why) == status && count == UNTOUCHED && why.rule == 99);
+    WANT(!store->is_open || entries_of(store) == before);
+}
+
+/* That the entry at a place is this command, and was done. */
+static void is_entry(tg_store *store, uint64_t at, tg_record wanted) {
+    tg_record entry;
+    WANT(tg_entry(store, at, &entry, NULL, 0, NULL, 0) == TG_DONE && memcmp(&entry, &wanted, sizeof entry) == 0);
+}
+
+/* A host parks a user: the account holds what the user held, and each command has its entry. Each denial and refusal. */
+static void a_user_is_parked(void) {
+    const tg_edge knows[2] = { { 0, 1, TG_GRANT }, { 1, 0, TG_FREE_U } };
+    tg_store store = TG_STORE_INIT;
+    tg_target row[4] = { { UNTOUCHED, 0 }, { UNTOUCHED, 0 }, { UNTOUCHED, 0 }, { UNTOUCHED, 0 } };
+    uint64_t account, letter, other, count, rights;
+    is_refused_parking(&store, (tg_parking){ 0, 1, 2 }, TG_NOT_OPEN);
+    WANT(tg_open(&store, workers, 2, knows, 2, &limits) == TG_DONE);
+    WANT(tg_create(&store, 0, TG_TAKE | TG_GRANT | TG_INSPECT, &cell, &account) == TG_DONE && account == 2);
+    WANT(tg_create(&store, 1, TG_READ | TG_WRITE, &sum, &letter) == TG_DONE && letter == 3);
+    /* Who isn't a worker, and names that aren't three vertices, or of which the host hasn't g. */
+    is_refused_parking(&store, (tg_parking){ account, 1, account }, TG_NO_SUCH_WORKER);
+    is_refused_parking(&store, (tg_parking){ 0, letter, account }, TG_NO_SUCH_WORKER);
+    is_refused_parking(&store, (tg_parking){ 0, UINT64_MAX, account }, TG_NO_SUCH_WORKER);
+    is_refused_parking(&store, (tg_parking){ 99, 99, 99 }, TG_NO_SUCH_WORKER);
+    is_denied_parking(&store, (tg_parking){ 0, 0, account }, (tg_denial){ TG_RULE_GRANT, TG_NOT_DISTINCT, 0, 0, 0 });
+    is_denied_parking(&store, (tg_parking){ 0, 1, 0 }, (tg_denial){ TG_RULE_GRANT, TG_NOT_DISTINCT, 0, 0, 0 });
+    is_denied_parking(&store, (tg_parking){ 0, 1, 1 }, (tg_denial){ TG_RULE_GRANT, TG_NOT_DISTINCT, 0, 0, 0 });
+    is_denied_parking(&store, (tg_parking){ 1, 0, letter }, (tg_denial){ TG_RULE_GRANT, TG_MISSING, 1, 0, TG_GRANT });
+    is_denied_parking(&store, (tg_parking){ 0, 1, letter }, (tg_denial){ TG_RULE_GRANT, TG_MISSING, 0, letter, TG_GRANT });
+    is_denied_parking(&store, (tg_parking){ 0, 1, UINT64_MAX }, (tg_denial){ TG_RULE_GRANT, TG_MISSING, 0, UINT64_MAX, TG_GRANT });
+    WANT(entries_of(&store) == 8);
+    /* An account that is in use: the user has an edge to it, or it holds something. */
+    WANT(tg_grant(&store, 0, 1, account, TG_INSPECT, NULL) == TG_DONE);
+    is_refused_parking(&store, (tg_parking){ 0, 1, account }, TG_IN_USE);
+    WANT(tg_remove(&store, 1, account, TG_INSPECT, NULL) == TG_DONE);
+    WANT(tg_create(&store, 0, TG_READ | TG_TAKE | TG_GRANT, &cell, &other) == TG_DONE && other == 4);
+    WANT(tg_grant(&store, 0, other, account, TG_INSPECT, NULL) == TG_DONE);
+    is_refused_parking(&store, (tg_parking){ 0, 1, other }, TG_IN_USE);
+    WANT(entries_of(&store) == 12 && tg_label(&store, 1, letter, &rights) == TG_DONE && rights == (TG_READ | TG_WRITE));
+    /* It is parked: two entries for each edge, and three more. */
+    WANT(tg_park(&store, &(tg_parking){ 0, 1, account }, &count, NULL) == TG_DONE && count == 2 && entries_of(&store) == 19);
+    is_entry(&store, 12, (tg_record){ .worker = 0, .deed = TG_DEED_GRANT, .via = 1, .target = account, .rights = TG_GRANT });
+    is_entry(&store, 13, (tg_record){ .worker = 1, .deed = TG_DEED_GRANT, .via = account, .target = 0, .rights = TG_FREE_U });
+    is_entry(&store, 14, (tg_record){ .worker = 1, .deed = TG_DEED_GRANT, .via = account, .target = letter, .rights = TG_READ | TG_WRITE });
+    is_entry(&store, 15, (tg_record){ .worker = 1, .deed = TG_DEED_REMOVE, .target = account, .rights = TG_GRANT });
+    is_entry(&store, 16, (tg_record){ .worker = 1, .deed = TG_DEED_REMOVE, .target = 0, .rights = TG_FREE_U });
+    is_entry(&store, 17, (tg_record){ .worker = 1, .deed = TG_DEED_REMOVE, .target = letter, .rights = TG_READ | TG_WRITE });
+    is_entry(&store, 18, (tg_record){ .worker = 1, .deed = TG_DEED_RETIRE });
+    WANT(tg_inspect(&store, 0, account, row, 4, &count, NULL) == TG_DONE && count == 2 && row[0].to == 0 && row[0].rights == TG_FREE_U);
+    WANT(row[1].to == letter && row[1].rights == (TG_READ | TG_WRITE) && row[2].to == UNTOUCHED);
+    WANT(tg_edges_to(&store, 1, row, 4, &count) == TG_DONE && count == 1 && row[0].to == 0 && row[0].rights == TG_GRANT);
+    is_refused_parking(&store, (tg_parking){ 0, 1, account }, TG_NO_SUCH_WORKER);
+    WANT(tg_audit(&store, &count) == TG_DONE && count == 20 && tg_close(&store) == TG_DONE);
+}
+
+/* A user whose nursery is full is refused, and everybody holds what it held. After a collection there is room. */
+static void parked_in_a_full_heap(void) {
+    const tg_limits small = { 1000, 20, 4 };
+    const tg_edge knows = { 0, 1, TG_GRANT };
+    tg_store store = TG_STORE_INIT;
+    uint64_t account, name, made = 0, count = UNTOUCHED, rights;
+    WANT(tg_open(&store, workers, 2, &knows, 1, &small) == TG_DONE);
+    WANT(tg_create(&store, 0, TG_TAKE | TG_GRANT, &cell, &account) == TG_DONE && account == 2);
+    while (tg_create(&store, 1, TG_READ, &cell, &name) == TG_DONE)
+        made++;
+    WANT(made > 0);
+    is_refused_parking(&store, (tg_parking){ 0, 1, account }, TG_HEAP_FULL);
+    for (uint64_t i = 0; i < made; i++)
+        WANT(tg_label(&store, 1, account + 1 + i, &rights) == TG_DONE && rights == TG_READ);
+    WANT(tg_who_holds(&store, TG_READ, account + 1, &name, 1, &count) == TG_DONE && count == 1 && name == 1);
+    WANT(tg_remove(&store, 1, account + made, TG_READ, NULL) == TG_DONE);
+    for (uint64_t i = 0; i + 8 < made; i++)
+        WANT(tg_remove(&store, 1, account + 1 + i, TG_READ, NULL) == TG_DONE);
+    WANT(tg_collect(&store, TG_FULL, &count) == TG_DONE);
+    WANT(tg_park(&store, &(tg_parking){ 0, 1, account }, &count, NULL) == TG_DONE && count == 7);
+    WANT(tg_audit(&store, &number) == TG_DONE && number == entries_of(&store) && tg_close(&store) == TG_DONE);
+    number = UNTOUCHED;
+}
+
+/* That a law is reported to the worker and to the host, each of whom may get TG_NO_LAW. */
+static void is_law(tg_store *store, uint64_t name, uint32_t wanted, uint32_t kept, uint32_t wanted_by_host) {
+    tg_vertex_law law = { 77, 77 };
+    const uint64_t before = entries_of(store);
+    WANT(tg_law(store, 1, name, &law) == TG_DONE && law.law == wanted && law.most == (wanted == TG_LOG ? kept : 0));
+    law = (tg_vertex_law){ 77, 77 };
+    WANT(tg_law_of(store, name, &law) == TG_DONE && law.law == wanted_by_host && law.most == (wanted_by_host == TG_LOG ? kept : 0));
+    WANT(entries_of(store) == before);
+}
+
+/* A worker is shown the law of what it may use, and the host that of each vertex that a worker reaches. */
+static void laws_are_shown(void) {
+    const tg_value kinds[4] = { cell, sum, greatest, last_two };
+    tg_store store = TG_STORE_INIT;
+    tg_vertex_law law = { 77, 77 };
+    uint64_t name, count;
+    WANT(tg_law(&store, 1, 2, &law) == TG_NOT_OPEN && tg_law_of(&store, 2, &law) == TG_NOT_OPEN);
+    WANT(tg_open(&store, workers, 2, edges, 2, &limits) == TG_DONE);
+    WANT(tg_law(&store, 2, 0, &law) == TG_NO_SUCH_WORKER && tg_law(&store, UINT64_MAX, 0, &law) == TG_NO_SUCH_WORKER);
+    WANT(law.law == 77 && law.most == 77);
+    for (uint32_t i = 0; i < 4; i++) {
+        WANT(tg_create(&store, 0, 255, &kinds[i], &name) == TG_DONE && name == 2 + i);
+        is_law(&store, name, TG_NO_LAW, 2, i);
+        WANT(tg_grant(&store, 0, 1, name, TG_TAKE | TG_GRANT | TG_INSPECT | TG_FREE_U | TG_FREE_V, NULL) == TG_DONE);
+        is_law(&store, name, TG_NO_LAW, 2, i);
+        const uint64_t use[3] = { TG_READ, TG_WRITE, TG_APPEND };
+        for (int k = 0; k < 3; k++) {
+            WANT(tg_grant(&store, 0, 1, name, use[k], NULL) == TG_DONE);
+            is_law(&store, name, i, 2, i);
+            WANT(tg_remove(&store, 1, name, use[k], NULL) == TG_DONE);
+        }
+    }
+    /* A worker's own vertex, one that was never made, and one that no worker reaches, before and after it is collected. */
+    is_law(&store, 1, TG_NO_LAW, 0, TG_CELL);
+    is_law(&store, 6, TG_NO_LAW, 0, TG_NO_LAW);
+    is_law(&store, UINT64_MAX, TG_NO_LAW, 0, TG_NO_LAW);
+    WANT(tg_withdraw(&store, 5, 255, NULL, 0, NULL, 0, &count) == TG_DONE && count == 0);
+    is_law(&store, 5, TG_NO_LAW, 2, TG_NO_LAW);
+    WANT(tg_collect(&store, TG_FULL, &count) == TG_DONE && count == 5);
+    is_law(&store, 5, TG_NO_LAW, 2, TG_NO_LAW);
+    is_law(&store, 4, TG_NO_LAW, 2, TG_MAX);
+    WANT(tg_close(&store) == TG_DONE);
+}
+
 /* Three clients that know each other leave: their empty rows stay, which their spawner has edges to, and nothing else. */
 static void three_leave(void) {
     const uint64_t know = TG_TAKE | TG_GRANT;
@@ -1777,6 +1918,9 @@ int main(void) {
     a_worker_leaves();
     rights_are_handed_on();
     rights_are_withdrawn();
+    a_user_is_parked();
+    parked_in_a_full_heap();
+    laws_are_shown();
     three_leave();
     entries_forgotten();
     parts_audited();

@@ -59,6 +59,10 @@ PyObject *counted(struct state *state, tg_status status, uint64_t number, const 
     return PyLong_FromUnsignedLongLong(number);
 }
 
+PyObject *law_told(const tg_vertex_law *law) {
+    return law->law == TG_NO_LAW ? Py_NewRef(Py_None) : Py_BuildValue("II", law->law, law->most);
+}
+
 PyObject *numbers_told(const uint64_t *numbers, uint64_t count) {
     PyObject *told = PyList_New((Py_ssize_t)count);
     for (uint64_t at = 0; told != NULL && at < count; at++) {

@@ -19,7 +19,8 @@
 /* The functions of the library, without tg_ before them. */
 #define EACH_CALL(DO) \
     DO(open) DO(close) DO(take) DO(grant) DO(remove) DO(hand) DO(write) DO(append) DO(create) DO(spawn) DO(retire) \
-    DO(leave) DO(withdraw) DO(who_holds) DO(edges_to) DO(subjects) DO(read) DO(list) DO(inspect) DO(label) DO(collect) DO(census) \
+    DO(leave) DO(withdraw) DO(park) DO(who_holds) DO(edges_to) DO(subjects) DO(read) DO(list) DO(inspect) DO(label) DO(law) \
+    DO(law_of) DO(collect) DO(census) \
     DO(names) DO(entries) DO(first) DO(entry) DO(forget) DO(resume) DO(reopen) DO(apply_all) DO(audit) DO(auditor_open) \
     DO(auditor_feed) DO(auditor_at) DO(auditor_forget) \
     DO(auditor_sweep) DO(auditor_close) DO(auditor_snapshot) DO(auditor_reopen) DO(snapshot_text) DO(snapshot_read) \
@@ -145,6 +146,9 @@ PyObject *decided(struct state *state, tg_status status, const tg_denial *denial
 
 /* The number after TG_DONE, or else the refusal is raised. */
 PyObject *counted(struct state *state, tg_status status, uint64_t number, const uint64_t *worker);
+
+/* A pair of the number of a law and how many numbers a log keeps, or None for TG_NO_LAW. */
+PyObject *law_told(const tg_vertex_law *law);
 
 PyObject *numbers_told(const uint64_t *numbers, uint64_t count);
 PyObject *set_told(const uint64_t *numbers, uint64_t count);

@@ -43,6 +43,7 @@ from ._refusals import (
     Denied,
     Error,
     HeapFull,
+    InUse,
     NoSuchWorker,
     NotAudited,
     NotOpen,
@@ -55,7 +56,7 @@ from ._refusals import (
 from ._snapshot import Snapshot, Vertex
 from ._store import Store
 from ._texts import end_text, opening_text
-from ._values import MOST_NUMBERS, Cell, Counts, Edge, Kind, Limits, Log, Max, Rights, Sum, Target, Value
+from ._values import MOST_NUMBERS, Cell, Counts, Edge, Kind, Law, Limits, Log, Max, Rights, Sum, Target, Value
 from ._view import View
 
 READ, WRITE, TAKE, GRANT, APPEND, INSPECT, FREE_U, FREE_V = Rights
@@ -89,7 +90,9 @@ __all__ = [
     "GRANT",
     "HeapFull",
     "INSPECT",
+    "InUse",
     "Kind",
+    "Law",
     "Limits",
     "Log",
     "MOST_NUMBERS",

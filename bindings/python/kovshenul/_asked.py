@@ -3,13 +3,13 @@ order."""
 from __future__ import annotations
 
 from dataclasses import replace
-from typing import Iterable, List, Tuple
+from typing import Iterable, List, Optional, Tuple
 
 from ._library import BITS, number_in
 from ._refusals import BadEdge, BadLaw, BadLimits, BadRights, BadValues, BadWorkers, refusal
 from ._rules import ALL_RIGHTS, MOST_SUBJECTS, Graph, Stored
 from ._snapshot import Snapshot
-from ._values import Cell, Log, Max, Rights, Sum, Value
+from ._values import Cell, Law, Log, Max, Rights, Sum, Value
 from .journal import Denied, Entry
 
 MOST_VERTICES = 2**48
@@ -38,6 +38,13 @@ def stored_in(value: Value) -> Stored:
         if isinstance(value, law):
             return Stored(word, (number_in(BITS, value.number),))
     raise TypeError("a value is a Cell, a Sum, a Max or a Log")
+
+
+def law_in(stored: Optional[Stored]) -> Optional[Law]:
+    """The law of what a vertex stores, or none."""
+    if stored is None:
+        return None
+    return next((Law(law) for law, word in LAWS.items() if word == stored.law), Law(Log, stored.most))
 
 
 def must_be_rights(*sets: int) -> None:

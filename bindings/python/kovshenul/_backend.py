@@ -11,7 +11,8 @@ is given in numbers, lists of numbers and tuples of them:
 - a command as its call does, with the edges of a row as Targets;
 - an entry as a Record, the numbers that were stored or read, and the edges that were shown; one to go on from is packed so;
 - `could` as the number of the answer, how many names are lacking, and for each turn a Record and the numbers of its value;
-- a census as its ten numbers, a label as its bits, and the `could` of a view as its number.
+- a census as its ten numbers, a label as its bits, a law as its number and the most numbers of a log, or None, and the `could` of a
+  view as its number.
 
 All else is in the package once. It is the types, the exceptions and their texts, the pages of help, and the lock.
 """

@@ -23,12 +23,14 @@ from .journal import DEEDS, REPLIES, Edges, Inspect, Record
 from .journal import List as Listed
 
 CALLS = (
-    "abi open close take grant remove hand write append create spawn retire leave withdraw who_holds edges_to subjects read list inspect label collect census names entries "
+    "abi open close take grant remove hand write append create spawn retire leave withdraw park who_holds edges_to subjects read list inspect label law law_of collect census "
+    "names entries "
     "first entry forget resume reopen apply_all audit auditor_open auditor_feed auditor_at auditor_forget auditor_sweep auditor_close "
     "auditor_snapshot auditor_reopen snapshot_text snapshot_read snapshot_close could answer_kind answer_names answer_turns answer_turn answer_close view_open view_could view_close"
 ).split()
 
 DENIED = 1
+NO_LAW = 15
 GRANTING = RULES.index("grant")
 MOST_WORKERS = 64
 MOST_ASKED = 4
@@ -79,6 +81,18 @@ class Handing(ctypes.Structure):
         ("target", Number),
         ("rights", Number),
     ]
+
+
+class VertexLaw(ctypes.Structure):
+    """The law by which a vertex stores numbers, or none."""
+
+    _fields_ = [("law", c_uint32), ("most", c_uint32)]
+
+
+class Parking(ctypes.Structure):
+    """A user whom a host parks."""
+
+    _fields_ = [("host", Number), ("user", Number), ("account", Number)]
 
 
 class Entry(ctypes.Structure):
@@ -398,6 +412,16 @@ class Store(_Place):
         worker_in = _number(worker)
         return self._count(library.tg_leave, worker_in, worker=worker_in.value)
 
+    def park(self, host: int, user: int, account: int) -> int:
+        parking, edges, why = Parking(*_numbers(host, user, account)), Number(), Denial()
+        with LOCK:
+            status = library.tg_park(self._at, byref(parking), byref(edges), byref(why))
+        if status == DENIED:
+            raise denied(why.numbers(), (parking.host, parking.user, parking.account))
+        if status:
+            raise refusal(status)
+        return edges.value
+
     def who_holds(self, right: int, name: int) -> List[int]:
         right_in, name_in = _number(right), _number(name)
         return self._each_name(library.tg_who_holds, right_in, name_in, right=right_in.value)
@@ -526,6 +550,22 @@ class Store(_Place):
     def label(self, worker: int, target: int) -> int:
         worker_in, target_in = _number(worker), _number(target)
         return self._count(short.tg_label, worker_in, target_in, worker=worker_in.value)
+
+    def law(self, worker: int, target: int) -> Optional[Tuple[int, int]]:
+        worker_in, target_in = _number(worker), _number(target)
+        return self._law(short.tg_law, worker_in, target_in, worker=worker_in.value)
+
+    def law_of(self, name: int) -> Optional[Tuple[int, int]]:
+        return self._law(library.tg_law_of, _number(name))
+
+    def _law(self, function: Function, *words: object, worker: Optional[int] = None) -> Optional[Tuple[int, int]]:
+        """Makes a call that answers a law."""
+        told = VertexLaw()
+        with LOCK:
+            status = function(self._at, *words, byref(told))
+        if status:
+            raise refusal(status, worker)
+        return None if told.law == NO_LAW else (told.law, told.most)
 
     def could(
         self, silent: bytes, as_if: bytes, x: int, right: int, y: int

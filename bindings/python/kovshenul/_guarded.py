@@ -25,6 +25,7 @@ COMMANDS = (
     "inspect",
     "leave",
     "list",
+    "park",
     "read",
     "remove",
     "retire",
@@ -35,7 +36,7 @@ COMMANDS = (
 )
 
 # The questions, whose answers show what commands did.
-QUESTIONS = ("census", "could", "edges_to", "entries", "entry", "label", "names", "subjects", "view", "who_holds")
+QUESTIONS = ("census", "could", "edges_to", "entries", "entry", "label", "law", "law_of", "names", "subjects", "view", "who_holds")
 
 
 class Guard:

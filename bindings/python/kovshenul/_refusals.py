@@ -149,6 +149,13 @@ class NoSuchWorker(Refused, LookupError):
     status = 48
 
 
+class InUse(Refused, ValueError):
+    """The account of a parking holds some right already, or the user holds a right over it. Make a new object, over which the host alone
+    has rights."""
+
+    status = 49
+
+
 class BadRights(Refused, ValueError):
     """No right, or a bit that is no right. Or several rights, if one is asked about."""
 

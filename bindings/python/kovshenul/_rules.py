@@ -223,7 +223,25 @@ class Graph:
             self.drop(x, z, lacked)
         return lacked
 
+    # ---- a user who is parked in an account
+
+    def may_grant(self, x: int, y: int, z: int, rights: int) -> bool:
+        """Whether a grant of x would be served."""
+        return len({x, y, z}) == 3 and bool(self.label(x, y) & GRANT) and not rights & ~self.label(x, z)
+
+    def in_use(self, user: int, account: int) -> bool:
+        """Whether the account holds something, or the user holds a right over it."""
+        return bool(self.row(account)) or self.label(user, account) != 0
+
     # ---- what is asked without an entry
+
+    def law(self, x: int, y: int) -> Optional[Stored]:
+        """What y stores, if x may read it, write to it or append to it."""
+        return self.values[y] if self.label(x, y) & (READ | WRITE | APPEND) else None
+
+    def law_of(self, y: int) -> Optional[Stored]:
+        """What y stores, if it is reached."""
+        return self.values[y] if y in self.reached() else None
 
     def reached(self) -> Set[int]:
         """The vertices to which walks along edges lead from subjects."""

@@ -9,9 +9,9 @@ from ._held import Held
 from ._library import BITS, number_in, short_of
 from ._marks import Marked
 from ._packed import bytes_of, commands_in, entry_in, limits_in, opening_in, scene_in, value_in
-from ._refusals import BadPlace, Denied, Refused, refusal
+from ._refusals import BadPlace, Denied, NoSuchWorker, Refused, refusal
 from ._snapshot import Snapshot
-from ._values import RIGHTS, Counts, Edge, Kind, Limits, Rights, Target, Value
+from ._values import RIGHTS, Counts, Edge, Kind, Law, Limits, Rights, Target, Value, law_told
 from ._view import View
 from .journal import Deed, Entry, Reply, entry_of
 from .outlook import Outlook, outlook_of
@@ -197,6 +197,28 @@ class Store(Held, Marked):
         """
         return self._place.withdraw(target, rights, bytes_of(keep))
 
+    def park(self, host: int, user: int, account: int) -> int:
+        """Parks a user. What the user holds goes into the account, and the user leaves, completely or not at all. Afterwards the account
+        holds exactly what the user held, the user holds nothing and is no worker, and all other labels are as they were. Edges to the
+        user stay, and what the user stored is lost with its vertex. Returns how many edges the user had.
+
+        The account is a vertex that holds nothing, such as an object that the host has just made. The host has GRANT over the user and
+        over the account. It needs TAKE over the account too if a worker is to take everything out later. Whoever else has TAKE over the
+        account can take what it holds, so let the host alone have rights over it.
+
+        Each command has an entry: two for each edge, and three more. The first one is the host's grant of GRANT over the account to the
+        user. If this grant is denied, its entry is the only one. It raises NoSuchWorker if the host or the user is no worker, and InUse
+        if the account holds a right, or the user holds one over it. There is no entry then, and all labels are as they were.
+        """
+        host, user = number_in(BITS, host), number_in(BITS, user)
+        try:
+            return self._place.park(host, user, account)
+        except Denied as denial:
+            raise self._with_names(denial)
+        except NoSuchWorker as refused:
+            active = self._place.subjects()
+            raise refusal(refused.status, worker=next((it for it in (host, user) if it not in active), None)) from None
+
     def who_holds(self, right: int, name: int) -> List[int]:
         """Returns who holds the right over the vertex with this name, by rising name. Holders are workers, objects, and workers that
         retired, if a worker reaches them. The journal gets no entry. It raises BadRights if it isn't one right."""
@@ -253,6 +275,16 @@ class Store(Held, Marked):
     def label(self, worker: int, target: int) -> Rights:
         """Returns the rights that the worker holds over the target, which may be none. The journal gets no entry."""
         return RIGHTS[self._place.label(worker, target)]
+
+    def law(self, worker: int, target: int) -> Optional[Law]:
+        """Returns the law by which the target stores numbers, if the worker has READ, WRITE or APPEND over the target. Otherwise it
+        returns None. The journal gets no entry. The law of a vertex never changes."""
+        return law_told(self._place.law(worker, target))
+
+    def law_of(self, name: int) -> Optional[Law]:
+        """Returns the law of the vertex with this name, whoever has rights over it. So it is for the host. It is None if the name was
+        never made, and if no worker reaches the vertex, whether it was collected or not. The journal gets no entry."""
+        return law_told(self._place.law_of(name))
 
     def could(
         self,

@@ -4,7 +4,7 @@ from __future__ import annotations
 from dataclasses import astuple, dataclass
 from enum import IntEnum, IntFlag
 from struct import Struct
-from typing import NamedTuple, Tuple
+from typing import NamedTuple, Optional, Tuple, Type
 
 from ._library import number_in
 
@@ -109,6 +109,26 @@ class Log(Value):
 
     def __post_init__(self) -> None:
         self._pack(3, number_in(32, self.most), 0)
+
+
+# The laws by their numbers. A log begins with no number.
+LAWS = (Cell, Sum, Max, Log)
+
+
+class Law(NamedTuple):
+    """By which law a write changes what a vertex stores: `kind` is Cell, Sum, Max or Log. A log keeps the last `most` numbers. Of the
+    other laws `most` is 0."""
+
+    kind: Type[Value]
+    most: int = 0
+
+    def __repr__(self) -> str:
+        return f"Law({self.kind.__name__}, {self.most})" if self.most else f"Law({self.kind.__name__})"
+
+
+def law_told(numbers: Optional[Tuple[int, int]]) -> Optional[Law]:
+    """The law with this number, of which a log keeps so many numbers, or none."""
+    return None if numbers is None else Law(LAWS[numbers[0]], numbers[1])
 
 
 # The letters of the laws, as in a script.

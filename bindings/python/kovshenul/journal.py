@@ -14,10 +14,7 @@ from dataclasses import dataclass
 from typing import NamedTuple, Optional, Sequence, Tuple, Union
 
 from ._refusals import CAUSES, RULES, BadValues, Numbers, told_by
-from ._values import RIGHTS, Cell, Log, Max, Rights, Sum, Target, Value
-
-# By their numbers. A log begins with none.
-LAWS = (Cell, Sum, Max, Log)
+from ._values import LAWS, RIGHTS, Log, Rights, Target, Value
 
 # Deeds that are no commands of a batch.
 NO_COMMAND = "a command is a deed of kovshenul.journal, but no Create and no Spawn"

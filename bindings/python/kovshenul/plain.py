@@ -30,7 +30,7 @@ from __future__ import annotations
 from typing import Callable, Iterable, Iterator, List, Optional, Set, Tuple, Type, TypeVar
 
 from . import journal, outlook
-from ._asked import Pair, edges_in, must_be_one, must_be_rights, must_be_written, must_fit, numbers_in, opened, shown_by, stored_in
+from ._asked import Pair, edges_in, law_in, must_be_one, must_be_rights, must_be_written, must_fit, numbers_in, opened, shown_by, stored_in
 from ._foresight import Foresight
 from ._library import number_in, short_of
 from ._marks import Marked
@@ -43,6 +43,7 @@ from ._refusals import (
     BadPlace,
     BadRights,
     Denied,
+    InUse,
     NoSuchWorker,
     NotOpen,
     NotWhole,
@@ -53,7 +54,7 @@ from ._refusals import (
 from ._rules import ALL_RIGHTS, Denial, Full, Graph
 from ._snapshot import Snapshot, Vertex
 from ._texts import end_text, opening_text
-from ._values import MOST_NUMBERS, Cell, Counts, Edge, Kind, Limits, Log, Max, Rights, Sum, Target, Value
+from ._values import MOST_NUMBERS, Cell, Counts, Edge, Kind, Law, Limits, Log, Max, Rights, Sum, Target, Value
 from .journal import Create, Deed, Entry, Reply, Spawn
 from .outlook import Chance, Outlook
 
@@ -290,6 +291,21 @@ class Store(_Held, Marked):
                 self.remove(worker, target, held)
         return self._graph.holders(rights, target)
 
+    def park(self, host: int, user: int, account: int) -> int:
+        """The host grants the user GRANT over the account. The user grants the account each edge that it has, by rising name, removes its
+        GRANT, and leaves. Returns how many edges these were. The account holds nothing before, and the user has no edge to it."""
+        host, user, account = numbers_in(host, user, account)
+        self._must_work(host)
+        self._must_work(user)
+        row = self._graph.row(user)
+        if self._graph.may_grant(host, user, account, GRANT) and self._graph.in_use(user, account):
+            raise InUse
+        self.grant(host, user, account, GRANT)
+        for target, rights in row:
+            self.grant(user, account, target, rights)
+        self.remove(user, account, GRANT)
+        return self.leave(user)
+
     def _must_work(self, worker: int) -> None:
         """The store is open, and the worker is active."""
         self._must_be_open()
@@ -326,6 +342,18 @@ class Store(_Held, Marked):
         worker, target = numbers_in(worker, target)
         self._must_work(worker)
         return Rights(self._graph.label(worker, target))
+
+    def law(self, worker: int, target: int) -> Optional[Law]:
+        """The law by which the target stores numbers, if the worker has READ, WRITE or APPEND over the target."""
+        worker, target = numbers_in(worker, target)
+        self._must_work(worker)
+        return law_in(self._graph.law(worker, target))
+
+    def law_of(self, name: int) -> Optional[Law]:
+        """The law of the vertex with this name, if a worker reaches the vertex."""
+        (name,) = numbers_in(name)
+        self._must_be_open()
+        return law_in(self._graph.law_of(name))
 
     def who_holds(self, right: int, name: int) -> List[int]:
         """Returns who holds the right over the vertex with this name, of all that a worker reaches, by rising name."""

@@ -391,6 +391,7 @@ class Cases:
             "spawn": (0, READ, Cell(0)),
             "retire": (0,),
             "leave": (0,),
+            "park": (0, 1, note),
             "list": (0,),
             "inspect": (0, note),
             "apply_all": (0, [journal.List()]),

@@ -57,8 +57,9 @@ COULD = (outlook.Could, outlook.WantsNames, outlook.Open)
 
 NUMBERS = (0, 1, 7, 40, 2**63, 2**64 - 1)
 VALUES = (Cell(3), Sum(40), Sum(2**64 - 1), Max(9), Log(1), Log(2), Log(2))
-MAKING, MOVING, TOUCHING = ("create", "spawn"), ("take", "grant", "hand"), ("read", "write", "append", "inspect", "label", "who_holds", "withdraw")
-COMMANDS = (*MAKING, "create", *MOVING * 3, *TOUCHING, "append", "append", "remove", "list")
+MAKING, MOVING = ("create", "spawn"), ("take", "grant", "hand")
+TOUCHING = ("read", "write", "append", "inspect", "label", "law", "law_of", "who_holds", "withdraw")
+COMMANDS = (*MAKING, "create", *MOVING * 3, *TOUCHING, "append", "append", "remove", "list", "park")
 RARE = ("retire", "leave", "wrong", "look_back")
 
 
@@ -113,6 +114,8 @@ class Draw:
             return self.wrong(graph, x)
         if command == "look_back":
             return self.rng.choice([("entry", self.rng.randrange(MANY)), ("entries",), ("first",), ("audit",)])
+        if command == "park":
+            return command, *self.parking(graph)
         if command in MAKING:
             return command, x, self.rights() | (TAKE | GRANT if self.rng.random() < 0.5 else 0), self.rng.choice(VALUES)
         if command in MOVING:
@@ -125,6 +128,8 @@ class Draw:
             return command, x, target, self.rng.choice(NUMBERS)
         if command == "who_holds":
             return command, self.rng.choice(list(Rights)), target
+        if command == "law_of":
+            return command, target
         if command == "withdraw":
             return command, target, self.rights(), [self.name(graph) for _ in range(self.rng.randrange(3))]
         return (command, x) if command in ("list", "retire", "leave") else (command, x, target)
@@ -134,6 +139,17 @@ class Draw:
         via, _ = self.target(graph, x, GRANT if command == "grant" else TAKE)
         target, rights = self.target(graph, x if command == "grant" else via)
         return (via, self.target(graph, x, GRANT)[0], target, rights) if command == "hand" else (via, target, rights)
+
+    def parking(self, graph):
+        """A host, a user and an account. Mostly the host has g over the user and over the account, and mostly the account holds nothing."""
+        known = [(x, [y for y, rights in graph.row(x) if rights & GRANT]) for x in graph.subjects[-6:]]
+        pairs = [(host, user, granted) for host, granted in known for user in granted if user in graph.subjects]
+        if not pairs or self.rng.random() < 0.1:
+            return [self.name(graph) for _ in range(3)]
+        host, user, accounts = self.rng.choice(pairs)
+        empty = [y for y in accounts if y != user and not graph.row(y) and not graph.label(user, y)]
+        drawn = self.rng.random()
+        return host, user, self.rng.choice(empty if empty and drawn < 0.5 else accounts) if drawn < 0.9 else self.name(graph)
 
     def wrong(self, graph, x):
         """A call that is refused for what it is asked."""
@@ -178,10 +194,12 @@ class Run:
         for x in self.same("subjects")[-6:]:
             for y in range(min(made, 12) + 1):
                 self.same("label", x, y)
+                self.same("law", x, y)
                 self.same("read", x, y)
         for y in range(max(0, made - 12), made + 1):
             self.same("who_holds", self.draw.rng.choice(list(Rights)), y)
             self.same("edges_to", y)
+            self.same("law_of", y)
         self.same("collect", FULL)
         self.same("names")
         counts, wanted = self.store.census(), self.model.census()
@@ -399,7 +417,8 @@ class Surface(unittest.TestCase):
             it.close()
             self.assertRaises(NotOpen, it.__enter__)
         self.assertRaises(NotOpen, view.could, 0, READ, 1)
-        calls = [("read", 0, 1), ("list", 0), ("create", 0, READ, Cell(0)), ("leave", 0), ("label", 0, 1), ("subjects",)]
+        calls = [("read", 0, 1), ("list", 0), ("create", 0, READ, Cell(0)), ("leave", 0), ("park", 0, 1, 2), ("label", 0, 1), ("subjects",)]
+        calls += [("law", 0, 1), ("law_of", 0)]
         calls += [("hand", 0, 1, 1, 0, READ), ("withdraw", 1, READ), ("who_holds", READ, 1), ("edges_to", 1), ("could", 0, READ, 1), ("view",), ("collect",), ("names",), ("census",)]
         calls += [("entries",), ("entry", 0), ("forget", 0), ("audit",), ("go_on", 0, [kovshenul.journal.Entry(0, kovshenul.journal.List(), kovshenul.journal.Done())])]
         for call, *arguments in calls:
@@ -445,6 +464,12 @@ WRONG_RULES = {
     "a log keeps the first": (Stored.written, "[-self.most :]", "[: self.most]"),
     "a maximum is the least": (Stored.written, "max(", "min("),
     "objects hold nothing": (Graph.holders, "self.reached()", "self.subjects"),
+    "a law is shown to who has r alone": (Graph.law, "(READ | WRITE | APPEND)", "READ"),
+    "a law is shown to all": (Graph.law, "(READ | WRITE | APPEND)", "ALL_RIGHTS"),
+    "a law of what nobody reaches": (Graph.law_of, "y in self.reached()", "y < self.made"),
+    "an account that the user has an edge to": (Graph.in_use, " or self.label(user, account) != 0", ""),
+    "an account that holds something": (Graph.in_use, "bool(self.row(account)) or ", ""),
+    "an account over which the host lacks g": (Graph.may_grant, "rights & ~self.label(x, z)", "0"),
     "the silent ones act": (Future.__init__, "if x not in {*silent}", ""),
     "nobody grants": (Future.move_all, '"grant"', '"take"'),
     "nobody is spawned": (Future.__init__, '("create", "create", "spawn") if', '("create", "create") if'),
@@ -469,6 +494,16 @@ def with_wrong_edge(call, *arguments):
         raise Denied(why.rule, why.cause, edge, why.rights, why.vertices) from None
 
 
+def parked_in_words(it, host, user, account):
+    """The commands of a parking up to the leave. Returns how many edges the user has, and itself."""
+    row = [(target, it.label(user, target)) for target in sorted(it.names()) if it.label(user, target)]
+    Store.grant(it, host, user, account, GRANT)
+    for target, rights in row:
+        Store.grant(it, user, account, target, rights)
+    Store.remove(it, user, account, GRANT)
+    return len(row), it
+
+
 # Wrong rules of the store: which call of it, and what it does then.
 WRONG_STORES = {
     "a take has r too": ("take", lambda it, x, y, z, rights: Store.take(it, x, y, z, rights | READ)),
@@ -483,6 +518,11 @@ WRONG_STORES = {
     "a spawned one is no worker": ("spawn", lambda it, x, rights, value: Store.create(it, x, rights, value)),
     "who retires goes on": ("retire", lambda it, x: it.label(x, x) and None),
     "who leaves keeps its edges": ("leave", lambda it, x: Store.retire(it, x) or 0),
+    "a user is parked without its edges": ("park", lambda it, host, user, account: Store.leave(it, user)),
+    "a user who is parked doesn't leave": ("park", lambda it, host, user, account: parked_in_words(it, host, user, account)[0]),
+    "an account in use is taken": ("park", lambda it, host, user, account: parked_in_words(it, host, user, account) and Store.leave(it, user)),
+    "a law is shown to the worker that hasn't it": ("law", lambda it, x, y: Store.label(it, x, y) and Store.law_of(it, y)),
+    "the law of a log keeps 64": ("law_of", lambda it, y: (law := Store.law_of(it, y)) and law._replace(most=64 * (law.kind is Log))),
     "a withdrawal keeps nobody": ("withdraw", lambda it, y, rights, keep: Store.withdraw(it, y, rights)),
     "a withdrawal of all rights": ("withdraw", lambda it, y, rights, keep: Store.withdraw(it, y, 255, keep)),
     "a withdrawal reports workers alone": ("withdraw", lambda it, y, rights, keep: [x for x in Store.withdraw(it, y, rights, keep) if x in it.subjects()]),

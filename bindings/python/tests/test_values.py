@@ -35,6 +35,7 @@ from kovshenul import (
     Edge,
     HeapFull,
     Kind,
+    Law,
     Limits,
     Log,
     Max,
@@ -160,6 +161,7 @@ class BackEnds(unittest.TestCase):
             calls += [(store.hand, 0, 1, 1, 1, 1), (Store.reopen, auditor.snapshot(), LIMITS)]
             calls += [(store.write, 0, 1, 1), (store.append, 0, 1, 1), (store.create, 0, 1, Cell(0)), (store.spawn, 0, 1, Cell(0))]
             calls += [(store.list, 0), (store.inspect, 0, 1), (store.retire, 0), (store.leave, 0), (store.label, 0, 1)]
+            calls += [(store.park, 0, 1, 2), (store.law, 0, 1), (store.law_of, 1)]
             calls += [(store.who_holds, 1, 1), (store.withdraw, 1, 1), (store.edges_to, 1), (store.could, 0, 1, 1), (store.view,), (store.collect,), (store.census,)]
             calls += [(it,) for it in (store.names, store.subjects, store.entries, store.first, store.audit)]
             calls += [(store.entry, 0), (store.forget, 0), (auditor.feed, store), (auditor.forget, store, 0), (auditor.sweep,)]
@@ -176,7 +178,7 @@ class BackEnds(unittest.TestCase):
         store, auditor, view = places
         for place in places:
             self.assertRaises(TypeError, place.open)
-        calls = [(store.take, 1, 2, 3), (store.hand, 1, 2, 3, 4), (store.reopen, b""), (store.read,), (store.list, 1), (store.could, b"", b"", 1, 2), (auditor.feed, None)]
+        calls = [(store.park, 1, 2), (store.law, 1), (store.law_of,), (store.take, 1, 2, 3), (store.hand, 1, 2, 3, 4), (store.reopen, b""), (store.read,), (store.list, 1), (store.could, b"", b"", 1, 2), (auditor.feed, None)]
         calls += [(auditor.forget, store), (view.could, 1, 2), (view.open, auditor, b"", b""), (view.open, store, b"", "")]
         for call, *words in calls:
             self.assertRaises(TypeError, call, *words)
@@ -477,6 +479,64 @@ class Stores(unittest.TestCase):
             self.assertEqual((store.withdraw(999, READ), store.withdraw(document, APPEND)), ([], []))
             self.assertEqual(store.withdraw(document, READ | WRITE), [readers[2]])
             self.assertEqual(store.audit(), store.entries())
+
+    def test_users_are_parked(self):
+        with Store([Cell(0)]) as store:
+            user = store.spawn(0, GRANT, Cell(0))
+            letters = [store.create(user, READ | WRITE, Cell(7)) for _ in range(3)]
+            account = store.create(0, TAKE | GRANT | INSPECT, Cell(0))
+            store.set_name(account, "account")
+            denials = {
+                (0, 0, account): f"grant: two vertices that must differ are one (0, 0, account ({account}))",
+                (0, user, user): f"grant: two vertices that must differ are one (0, {user}, {user})",
+                (0, user, 999): "grant: g is missing on 0->999",
+                (user, 0, account): f"grant: g is missing on {user}->0",
+            }
+            for words, text in denials.items():
+                with self.assertRaises(Denied) as denied:
+                    store.park(*words)
+                self.assertEqual(str(denied.exception), text)
+            before = store.entries()
+            self.assertEqual(before, 5 + len(denials))
+            for words, missing in {(0, account, account): account, (999, user, account): 999, (7, 8, 9): 7, (0, 2**64 - 1, 0): 2**64 - 1}.items():
+                with self.assertRaises(NoSuchWorker) as refused:
+                    store.park(*words)
+                self.assertEqual(str(refused.exception), f"no such worker: no active subject has the name {missing}")
+            store.grant(0, user, account, INSPECT)
+            self.assertRaises(kovshenul.InUse, store.park, 0, user, account)
+            store.remove(user, account, INSPECT)
+            self.assertEqual(store.entries(), before + 2)
+            self.assertEqual(store.park(0, user, account), 3)
+            grant = f"0 grant {user} {account} g = ok"
+            given = [f"{user} grant {account} {letter} rw = ok" for letter in letters]
+            left = [f"{user} remove {letter} rw = ok" for letter in letters] + [f"{user} retire = ok"]
+            entries = [grant, *given, f"{user} remove {account} g = ok", *left]
+            self.assertEqual([str(entry) for entry in [*store.journal()][before + 2 :]], entries)
+            self.assertEqual([edge.to for edge in store.inspect(0, account)], letters)
+            self.assertEqual((store.subjects(), store.edges_to(user)), ([0], [Edge(0, user, GRANT)]))
+            self.assertEqual(store.audit(), store.entries())
+
+    def test_a_user_without_edges_is_parked(self):
+        with opened() as store:
+            account = store.create(0, GRANT, Cell(0))
+            self.assertEqual((store.park(0, 1, account), store.entries()), (0, 4))
+            self.assertEqual((store.collect(), store.law_of(1)), (3, Law(Cell)))
+
+    def test_laws_are_shown(self):
+        with opened() as store:
+            laws = {Cell(1): Law(Cell), Sum(2): Law(Sum), Max(3): Law(Max), Log(64): Law(Log, 64)}
+            for value, law in laws.items():
+                name = store.create(0, APPEND | INSPECT, value)
+                self.assertEqual((store.law(0, name), store.law(1, name), store.law_of(name)), (law, None, law))
+                store.grant(0, 1, name, INSPECT)
+                self.assertIsNone(store.law(1, name))
+                store.grant(0, 1, name, APPEND)
+                self.assertEqual(store.law(1, name), law)
+                store.withdraw(name, APPEND | INSPECT)
+                self.assertEqual((store.law(0, name), store.law_of(name)), (None, None))
+            self.assertRaises(NoSuchWorker, store.law, 99, 0)
+            self.assertEqual((store.law_of(99), store.law_of(2**64 - 1), store.law(0, 1), store.law_of(1)), (None, None, None, Law(Cell)))
+            self.assertRaises(OverflowError, store.law_of, -1)
 
     def test_who_holds_is_asked_once(self):
         with Store([Cell(0)], [], Limits(400, 64, 64)) as store:

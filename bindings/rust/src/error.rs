@@ -149,6 +149,8 @@ pub enum Error {
     WorkersFull,
     /// No active worker has the name. It was never spawned, it is an object, or it retired.
     NoSuchWorker,
+    /// The account of a parking holds some right already, or the user holds a right over it.
+    InUse,
     /// No right; several rights, where one is asked about.
     BadRights,
     /// A log of 0 or of more than 64 numbers.
@@ -178,12 +180,13 @@ pub enum Error {
 }
 
 // The errors with a status of their own.
-const REFUSALS: [(Error, u32); 16] = [
+const REFUSALS: [(Error, u32); 17] = [
     (Error::OutOfMemory, 32),
     (Error::HeapFull, 33),
     (Error::VerticesFull, 34),
     (Error::WorkersFull, 35),
     (Error::NoSuchWorker, 48),
+    (Error::InUse, 49),
     (Error::BadRights, 64),
     (Error::BadLaw, 65),
     (Error::BadKind, 66),

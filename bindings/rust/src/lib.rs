@@ -44,5 +44,5 @@ pub use rights::{NoRights, Rights};
 pub use snapshot::{NoSnapshot, Snapshot, Vertex};
 pub use store::Store;
 pub use text::{end_text, opening_text};
-pub use value::{Counts, Edge, Hand, Kind, Limits, Target, Value};
+pub use value::{Counts, Edge, Hand, Kind, Law, Limits, Parking, Target, Value};
 pub use view::{Chance, View};

@@ -1,5 +1,5 @@
 //! The library's own functions, as `kovshenul.h` has them.
-use crate::{Counts, Edge, Hand, Limits, Value};
+use crate::{Counts, Edge, Hand, Law, Limits, Parking, Value};
 use std::ffi::c_void;
 use std::os::raw::c_char;
 
@@ -99,6 +99,26 @@ impl Value {
             Value::Sum(number) => (SUM, 0, number),
             Value::Max(number) => (MAX, 0, number),
             Value::Log(most) => (LOG, most, 0),
+        }
+    }
+}
+
+#[repr(C)]
+#[derive(Default)]
+pub struct RawLaw {
+    law: u32,
+    most: u32,
+}
+
+impl RawLaw {
+    /// The law, or none if the number is that of none.
+    pub fn told(&self) -> Option<Law> {
+        match self.law {
+            CELL => Some(Law::Cell),
+            SUM => Some(Law::Sum),
+            MAX => Some(Law::Max),
+            LOG => Some(Law::Log(self.most)),
+            _ => None,
         }
     }
 }
@@ -215,6 +235,7 @@ extern "C" {
     pub fn tg_grant(store: *mut RawStore, worker: u64, via: u64, target: u64, rights: u64, why: &mut RawDenial) -> u32;
     pub fn tg_remove(store: *mut RawStore, worker: u64, target: u64, rights: u64, why: &mut RawDenial) -> u32;
     pub fn tg_hand(store: *mut RawStore, handing: &RawHanding, removed: &mut u64, why: &mut RawDenial) -> u32;
+    pub fn tg_park(store: *mut RawStore, parking: &Parking, edges: &mut u64, why: &mut RawDenial) -> u32;
     pub fn tg_write(store: *mut RawStore, worker: u64, target: u64, value: u64, why: &mut RawDenial) -> u32;
     pub fn tg_append(store: *mut RawStore, worker: u64, target: u64, value: u64, why: &mut RawDenial) -> u32;
     pub fn tg_create(store: *mut RawStore, worker: u64, rights: u64, value: &RawValue, name: &mut u64) -> u32;
@@ -264,6 +285,8 @@ extern "C" {
         done: &mut u64,
     ) -> u32;
     pub fn tg_label(store: *mut RawStore, worker: u64, target: u64, rights: &mut u64) -> u32;
+    pub fn tg_law(store: *mut RawStore, worker: u64, target: u64, out: &mut RawLaw) -> u32;
+    pub fn tg_law_of(store: *mut RawStore, name: u64, out: &mut RawLaw) -> u32;
     pub fn tg_collect(store: *mut RawStore, kind: u32, left: &mut u64) -> u32;
     pub fn tg_census(store: *mut RawStore, counts: &mut Counts) -> u32;
     pub fn tg_names(store: *mut RawStore, names: *mut u64, room: usize, count: &mut u64) -> u32;

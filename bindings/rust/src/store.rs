@@ -1,8 +1,8 @@
 //! An open store.
 use crate::error::{decided, served};
 use crate::marks::Marks;
-use crate::raw::{self, RawDenial, RawEdge, RawHanding, RawRecord, RawStore, RawTarget, RawValue};
-use crate::{Counts, Edge, Entry, Error, Hand, Journal, Kind, Limits, Rights, Snapshot, Target, Value};
+use crate::raw::{self, RawDenial, RawEdge, RawHanding, RawLaw, RawRecord, RawStore, RawTarget, RawValue};
+use crate::{Counts, Edge, Entry, Error, Hand, Journal, Kind, Law, Limits, Parking, Rights, Snapshot, Target, Value};
 use std::cell::UnsafeCell;
 use std::fmt;
 use std::panic::RefUnwindSafe;
@@ -186,6 +186,40 @@ impl Store {
         let status = unsafe { raw::tg_hand(self.at(), &handing, &mut removed, &mut why) };
         decided(status, &why)?;
         Ok(Rights::told(removed))
+    }
+
+    /// Parks a user. What the user holds goes into the account, and the user leaves, completely or not at all. Afterwards the
+    /// account holds exactly what the user held, the user holds nothing and is no worker, and all other labels are as they were.
+    /// Edges to the user stay, and what the user stored is lost with its vertex. Returns how many edges the user had.
+    ///
+    /// The account is a vertex that holds nothing, such as an object that the host has just made. The host has `g` over the user
+    /// and over the account. It needs `t` over the account too if a worker is to take everything out later. Whoever else has `t`
+    /// over the account can take what it holds, so let the host alone have rights over it.
+    ///
+    /// Each command has an entry: two for each edge, and three more. The first one is the host's grant of `g` over the account to
+    /// the user. If this grant is denied, its entry is the only one. It is [`NoSuchWorker`](Error::NoSuchWorker) exactly if the host
+    /// or the user is no worker, and [`InUse`](Error::InUse) only if the account holds a right, or the user holds one over it. After
+    /// a refusal there is no entry, and all labels, values and workers are as they were.
+    ///
+    /// ```
+    /// # use kovshenul::{Error, Limits, Parking, Rights, Store, Value};
+    /// # let mut store = Store::open(&[Value::Cell(0)], &[], &Limits::default())?;
+    /// let user = store.spawn(0, Rights::GRANT, Value::Cell(0))?;
+    /// let letter = store.create(user, Rights::READ, Value::Cell(7))?;
+    /// let account = store.create(0, Rights::TAKE | Rights::GRANT, Value::Cell(0))?;
+    /// assert_eq!(store.park(&Parking { host: 0, user, account })?, 1);
+    /// assert_eq!(store.who_holds(Rights::READ, letter)?, [account]);
+    /// let user = store.spawn(0, Rights::GRANT, Value::Cell(0))?;
+    /// store.grant(0, user, account, Rights::TAKE)?;
+    /// store.take(user, account, letter, Rights::READ)?;
+    /// assert_eq!(store.read(user, letter)?, [7]);
+    /// # Ok::<(), Error>(())
+    /// ```
+    pub fn park(&mut self, parking: &Parking) -> Result<u64, Error> {
+        let (mut edges, mut why) = (0, RawDenial::default());
+        let status = unsafe { raw::tg_park(self.at(), parking, &mut edges, &mut why) };
+        decided(status, &why)?;
+        Ok(edges)
     }
 
     /// The worker writes to the target.
@@ -401,6 +435,32 @@ impl Store {
         let mut rights = 0;
         served(unsafe { raw::tg_label(self.at(), worker, target, &mut rights) })?;
         Ok(Rights::told(rights))
+    }
+
+    /// Returns the law by which the target stores numbers, if the worker has `r`, `w` or `a` over the target. Otherwise it returns
+    /// `None`. The journal gets no entry. The law of a vertex never changes.
+    ///
+    /// ```
+    /// # use kovshenul::{Error, Law, Limits, Rights, Store, Value};
+    /// # let mut store = Store::open(&[Value::Cell(0)], &[], &Limits::default())?;
+    /// let log = store.create(0, Rights::APPEND, Value::Log(8))?;
+    /// assert_eq!(store.law(0, log)?, Some(Law::Log(8)));
+    /// store.remove(0, log, Rights::APPEND)?;
+    /// assert_eq!((store.law(0, log)?, store.law_of(log)?), (None, None));
+    /// # Ok::<(), Error>(())
+    /// ```
+    pub fn law(&self, worker: u64, target: u64) -> Result<Option<Law>, Error> {
+        let mut law = RawLaw::default();
+        served(unsafe { raw::tg_law(self.at(), worker, target, &mut law) })?;
+        Ok(law.told())
+    }
+
+    /// Returns the law of the vertex with this name, whoever has rights over it. So it is for the host. It is `None` if the name was
+    /// never made, and if no worker reaches the vertex, whether it was collected or not. The journal gets no entry.
+    pub fn law_of(&self, name: u64) -> Result<Option<Law>, Error> {
+        let mut law = RawLaw::default();
+        served(unsafe { raw::tg_law_of(self.at(), name, &mut law) })?;
+        Ok(law.told())
     }
 
     /// Collects, and returns how many vertices the heap then has.

@@ -16,6 +16,20 @@ pub enum Value {
     Log(u32),
 }
 
+/// By which law a write changes what a vertex stores ([`Store::law`](crate::Store::law)).
+#[derive(Clone, Copy, PartialEq, Eq, Hash, Debug)]
+#[non_exhaustive]
+pub enum Law {
+    /// Keeps the last number.
+    Cell,
+    /// Adds, modulo 2^64.
+    Sum,
+    /// Keeps the greatest.
+    Max,
+    /// Keeps the last few, at most so many.
+    Log(u32),
+}
+
 /// The rights of vertex `from` over vertex `to`, at the opening or in a snapshot. At the opening both are workers.
 #[derive(Clone, Copy, PartialEq, Eq, Hash, Debug)]
 pub struct Edge {
@@ -40,6 +54,18 @@ pub struct Hand {
     pub target: u64,
     /// The rights: one at least.
     pub rights: Rights,
+}
+
+/// A user whom a host parks ([`Store::park`](crate::Store::park)).
+#[repr(C)]
+#[derive(Clone, Copy, PartialEq, Eq, Hash, Debug)]
+pub struct Parking {
+    /// The worker that holds `g` over the user and over the account.
+    pub host: u64,
+    /// The worker that leaves.
+    pub user: u64,
+    /// The vertex that is to hold what the user holds.
+    pub account: u64,
 }
 
 /// How many vertices and blocks there may be.

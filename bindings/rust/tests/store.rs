@@ -1,5 +1,5 @@
 //! What users of Rust expect of the crate beside its answers.
-use kovshenul::{Deed, Denial, Edge, Error, Hand, Kind, Limits, NoRights, Reply, Rights, Rule, Store, Target, Value};
+use kovshenul::{Deed, Denial, Edge, Entry, Error, Hand, Kind, Law, Limits, NoRights, Parking, Reply, Rights, Rule, Store, Target, Value};
 use std::collections::HashSet;
 use std::sync::mpsc;
 use std::sync::Mutex;
@@ -209,6 +209,51 @@ fn rights_are_withdrawn() {
     assert_eq!((store.withdraw(999, both, &[]), store.withdraw(document, Rights::APPEND, &[])), (Ok(vec![]), Ok(vec![])));
     assert_eq!(store.withdraw(document, both, &[]), Ok(vec![readers[2]]));
     assert_eq!(store.entries(), store.audit());
+}
+
+#[test]
+fn users_are_parked() {
+    let mut store = opened(1);
+    let user = store.spawn(0, Rights::GRANT, Value::Cell(0)).unwrap();
+    let letters: Vec<u64> = (0..3).map(|_| store.create(user, Rights::READ | Rights::WRITE, Value::Cell(7)).unwrap()).collect();
+    let account = store.create(0, Rights::TAKE | Rights::GRANT | Rights::INSPECT, Value::Cell(0)).unwrap();
+    let parking = Parking { host: 0, user, account };
+    let not_distinct = Err(Error::Denied(Denial::NotDistinct { rule: Rule::Grant }));
+    assert_eq!((store.park(&Parking { user: 0, ..parking }), store.park(&Parking { account: user, ..parking })), (not_distinct, not_distinct));
+    assert_eq!(store.park(&Parking { account: 999, ..parking }), missing(Rule::Grant, 0, 999, Rights::GRANT));
+    assert_eq!(store.park(&Parking { host: user, user: 0, account }), missing(Rule::Grant, user, 0, Rights::GRANT));
+    let before = store.entries().unwrap();
+    assert_eq!(before, 9);
+    assert_eq!(store.park(&Parking { user: account, ..parking }), Err(Error::NoSuchWorker));
+    assert_eq!(store.park(&Parking { host: 999, ..parking }), Err(Error::NoSuchWorker));
+    store.grant(0, user, account, Rights::INSPECT).unwrap();
+    assert_eq!((store.park(&parking), store.entries()), (Err(Error::InUse), Ok(10)));
+    store.remove(user, account, Rights::INSPECT).unwrap();
+    assert_eq!((store.park(&parking), store.entries()), (Ok(3), Ok(20)));
+    assert_eq!((store.park(&parking), store.subjects()), (Err(Error::NoSuchWorker), Ok(vec![0])));
+    let held: Vec<_> = store.inspect(0, account).unwrap().iter().map(|target| (target.to, target.rights)).collect();
+    assert_eq!(held, letters.iter().map(|letter| (*letter, Rights::READ | Rights::WRITE)).collect::<Vec<_>>());
+    let grant = |entry: &Entry| matches!(entry.deed, Deed::Grant { via, .. } if via == account);
+    assert_eq!(store.journal().filter(grant).count(), 3);
+    assert_eq!(store.entries(), store.audit());
+}
+
+#[test]
+fn laws_are_shown() {
+    let mut store = opened_with(0, 1, Rights::GRANT);
+    let laws = [(Value::Cell(1), Law::Cell), (Value::Sum(2), Law::Sum), (Value::Max(3), Law::Max), (Value::Log(64), Law::Log(64))];
+    for (value, law) in laws {
+        let name = store.create(0, Rights::WRITE | Rights::INSPECT, value).unwrap();
+        assert_eq!((store.law(0, name), store.law(1, name), store.law_of(name)), (Ok(Some(law)), Ok(None), Ok(Some(law))));
+        store.grant(0, 1, name, Rights::INSPECT).unwrap();
+        assert_eq!(store.law(1, name), Ok(None));
+        store.grant(0, 1, name, Rights::WRITE).unwrap();
+        assert_eq!(store.law(1, name), Ok(Some(law)));
+        store.withdraw(name, Rights::all(), &[]).unwrap();
+        assert_eq!((store.law(0, name), store.law_of(name)), (Ok(None), Ok(None)));
+    }
+    assert_eq!((store.law(99, 0), store.law_of(99), store.law_of(u64::MAX)), (Err(Error::NoSuchWorker), Ok(None), Ok(None)));
+    assert_eq!((store.law(0, 1), store.law_of(1)), (Ok(None), Ok(Some(Law::Cell))));
 }
 
 #[test]

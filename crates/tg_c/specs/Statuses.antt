@@ -15,6 +15,8 @@ use Rattle.tg_store.specs.declared.fault.ApplyFault.{ApplyFault}
 use Rattle.tg_store.specs.declared.fault.ApplyFault.TheVariants as apply
 use Rattle.tg_store.specs.declared.fault.CreateFault.{CreateFault}
 use Rattle.tg_store.specs.declared.fault.CreateFault.TheVariants as create
+use Rattle.tg_store.specs.declared.parking.ParkFault.{ParkFault}
+use Rattle.tg_store.specs.declared.parking.ParkFault.TheVariants as park
 use Rattle.tg_space.specs.declared.room_fault.RoomFault.{RoomFault}
 use Rattle.tg_space.specs.declared.room_fault.RoomFault.TheVariants as no_room
 use Rattle.tg_journal.specs.declared.auditor.PartFault.{PartFault}
@@ -45,6 +47,7 @@ status_of refusal.HeapFull = 33
 status_of refusal.VerticesFull = 34
 status_of refusal.WorkersFull = 35
 status_of refusal.NoSuchWorker = 48
+status_of refusal.InUse = 49
 status_of refusal.BadRights = 64
 status_of refusal.BadLaw = 65
 status_of refusal.BadKind = 66
@@ -80,6 +83,12 @@ abbrev pub of_apply : ApplyFault → CallRefusal
 of_apply apply.NoSuchWorker = refusal.NoSuchWorker
 of_apply apply.OutOfMemory = refusal.OutOfMemory
 of_apply apply.HeapFull = refusal.HeapFull
+
+abbrev pub of_park : ParkFault → CallRefusal
+of_park park.NoSuchWorker = refusal.NoSuchWorker
+of_park park.InUse = refusal.InUse
+of_park park.OutOfMemory = refusal.OutOfMemory
+of_park park.HeapFull = refusal.HeapFull
 
 abbrev pub of_create : CreateFault → CallRefusal
 of_create create.NoSuchWorker = refusal.NoSuchWorker

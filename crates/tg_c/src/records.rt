@@ -190,8 +190,8 @@ fn asked(kind: u32, via: u64, target: u64, rights: u64, value: u64) -> DeedOut
     }
 }
 
-// The number of a law, and how many numbers are kept, of a log alone.
-fn law_out(law: Law) -> (u32, u32)
+/// The number of a law, and how many numbers are kept, of a log alone.
+pub fn law_out(law: Law) -> (u32, u32)
     ensures { result ≡ law_told law }
 {
     match law {
