@@ -119,7 +119,7 @@ static void no_items(void) {
 static void texts(void) {
     static const tg_status known[] = {
         TG_DONE, TG_DENIED, TG_NOT_OPEN, TG_ALREADY_OPEN, TG_OUT_OF_MEMORY, TG_HEAP_FULL, TG_VERTICES_FULL, TG_WORKERS_FULL,
-        TG_NO_SUCH_WORKER,
+        TG_NO_SUCH_WORKER, TG_IN_USE,
         TG_BAD_RIGHTS, TG_BAD_LAW, TG_BAD_KIND, TG_BAD_WORKERS, TG_BAD_LIMITS, TG_BAD_EDGE, TG_BAD_VALUES, TG_BAD_ENTRY,
         TG_BAD_PLACE, TG_NOT_WHOLE, TG_NOT_AUDITED
     };

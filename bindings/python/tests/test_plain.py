@@ -114,6 +114,9 @@ class Draw:
             return self.wrong(graph, x)
         if command == "look_back":
             return self.rng.choice([("entry", self.rng.randrange(MANY)), ("entries",), ("first",), ("audit",)])
+        if command == "park" and len(graph.subjects) > 60:
+            # Nearly as many workers as may be: one more is asked for.
+            command = "spawn"
         if command == "park":
             return command, *self.parking(graph)
         if command in MAKING:
