@@ -10,8 +10,8 @@ use tg_store::{Kind, Limits, Parked, Parking, Store};
 // The worker who parks and unparks.
 const HOST: u64 = 0;
 
-// What is answered to the park, to the unpark and to a second unpark. Then what the new user holds over the object, what
-// the host holds over the account, and how many vertices a full collection leaves.
+// What is answered to the park, to the unpark and to a second unpark. Then what the new user holds over the object,
+// what the host holds over the account, and how many vertices a full collection leaves.
 type Seen = ([Option<Parked>; 2], bool, [Option<Label>; 2], u64);
 
 fn cell(alloc: Global) -> Option<Draft<CellPayload>> {

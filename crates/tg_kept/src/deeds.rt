@@ -39,7 +39,7 @@ pub struct AskedVertex<P: Payload> {
 }
 
 impl<D: Disk, P: Payload> Kept<D, P> {
-    /// MakesOrRefuses a vertex, as [`Store::make`](tg_store::Store::make) does. Then puts the lines of the entries into the
+    /// Makes a vertex, as [`Store::make`](tg_store::Store::make) does. Then puts the lines of the entries into the
     /// file, by one write and one sync, and answers.
     ///
     /// `Lost` is as in [`Kept::serve`]. The draft is dropped then.

@@ -25,7 +25,7 @@ enum Said<'a> {
     Entry(&'a Entry),
 }
 
-/// MakesOrRefuses the lines of entries, in their order, which come after a line with the sum `before`. Fails only if memory runs
+/// Makes the lines of entries, in their order, which come after a line with the sum `before`. Fails only if memory runs
 /// out.
 pub fn entry_lines(alloc: Global, before: LineSum, entries: &[Entry]) -> Result<Batch, AllocError>
     ensures texts { IfOk result (λ batch. batch_texts batch ≡ map entry_line entries.now) }
@@ -34,7 +34,7 @@ pub fn entry_lines(alloc: Global, before: LineSum, entries: &[Entry]) -> Result<
     entry_lines_named::<Brand>(alloc, Blank::new(1), before, entries)
 }
 
-/// MakesOrRefuses the lines of an opening, which come after a line with the sum `before`. They are its limits, the value of each
+/// Makes the lines of an opening, which come after a line with the sum `before`. They are its limits, the value of each
 /// worker and each edge. Fails only if memory runs out.
 pub fn opening_lines(alloc: Global, before: LineSum, opening: &Opening) -> Result<Batch, AllocError>
     ensures texts { IfOk result (λ batch. batch_texts batch ≡ opening_lines opening.now) }

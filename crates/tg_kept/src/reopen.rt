@@ -75,10 +75,10 @@ impl<D: Disk, P: Payload> Kept<D, P> {
     /// The refusals, in the order in which they are looked for. The store isn't made, or is dropped. A refusal that is
     /// not of the disk leaves a file with the same history:
     ///
-    /// - [`KeptOpenFault::File`], as [`LineFile::open`] refuses a file: a call of the disk failed, memory ran out, the file
-    ///   is no kept file, or a line is damaged.
-    /// - [`KeptOpenFault::Text`], with the first line that is none of a legal history. Its reply isn't that of the rules,
-    ///   for example. A mark has to have the number of the entries before it. Or memory ran out.
+    /// - [`KeptOpenFault::File`], as [`LineFile::open`] refuses a file: a call of the disk failed, memory ran out, the
+    ///   file is no kept file, or a line is damaged.
+    /// - [`KeptOpenFault::Text`], with the first line that is none of a legal history. Its reply isn't that of the
+    ///   rules, for example. A mark has to have the number of the entries before it. Or memory ran out.
     /// - [`KeptOpenFault::Store`], if there is no room in the heap for the store. It has the place of the entry.
     pub fn open<M: Maker<P>>(
         alloc: Global,
