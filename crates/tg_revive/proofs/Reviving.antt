@@ -112,7 +112,7 @@ bad_later g front es done legal bad =
       bad = λ is. bad.bad (subst (λ (k : ProtectionGraph). IsLegalEntry k x) graph is);
     }
 
-bad_on : (begin : HistoryStart) (es : List Entry) (limits : BlockLimits) (mid : StoreState) (at : ℕ) → IsRevived begin [] limits mid → IsFaithful mid → resuming.IsBadInHistory es mid at → IsBadInHistory begin es at
+bad_on : (begin : HistoryStart) (es : List Entry) (limits : BlockLimits) (mid : StoreState) (at : ℕ) → IsRevived begin [] limits mid → IsFaithful mid → resuming.IsBadAt es mid at → IsBadInHistory begin es at
 bad_on begin es limits mid at was faithful bad =
     let g : ProtectionGraph = start_at mid.opening in
     let count : length mid.entries ≡ entries_made_before begin + 0 = was.count in
