@@ -20,7 +20,7 @@ use Rattle.tg_c.specs.Statuses.{of_park, status_of}
 pub record IsParkingAnswered (p : Parking) (old new : StoreState) (answer : Result Parked ParkFault) : Type 0 where
   pub comes : IfOk answer (ComesOfParking p old new)
   pub no_such_worker : (g : ProtectionGraph) → StandsFor old g → (answer ≡ Err fault.NoSuchWorker) ↔ (¬ (IsSubject g p.host × IsSubject g p.user))
-  pub in_use : (g : ProtectionGraph) → StandsFor old g → answer ≡ Err fault.InUse → IsInUse g.label p
+  pub in_use : (g : ProtectionGraph) → StandsFor old g → answer ≡ Err fault.InUse → IsInUse g.label p.user p.account
   pub refused : OnErr answer (KeepsGraph old new)
 
 abbrev pub Parks : StorePlace → StorePlace → Parking → (Result Parked CallRefusal → Type 0) → Type 0
