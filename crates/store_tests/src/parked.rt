@@ -5,14 +5,21 @@ use std::alloc::Global;
 use tg_model::Command;
 use tg_payload::{CellPayload, Draft};
 use tg_rights::Label;
-use tg_store::{Kind, Limits, Parked, Parking, Store};
+use tg_store::{Kind, Limits, ParkFault, Parked, Parking, Store};
 
 // The worker who parks and unparks.
 const HOST: u64 = 0;
 
-// What is answered to the park, to the unpark and to a second unpark. Then what the new user holds over the object,
-// what the host holds over the account, and how many vertices a full collection leaves.
-type Seen = ([Option<Parked>; 2], bool, [Option<Label>; 2], u64);
+// How many edges the park and the unpark put into the other vertex, and whether a second unpark is denied. Then what the
+// new user holds over the object, what the host holds over the account, and how many vertices a full collection leaves.
+type Seen = ([Option<u64>; 2], bool, [Option<Label>; 2], u64);
+
+fn edges_of(answer: Result<Parked, ParkFault>) -> Option<u64> {
+    match answer {
+        Ok(Parked::Done { edges }) => Some(edges),
+        _ => None,
+    }
+}
 
 fn cell(alloc: Global) -> Option<Draft<CellPayload>> {
     Draft::new(alloc, CellPayload::new(0)).ok()
@@ -43,20 +50,19 @@ fn story(alloc: Global, store: &mut Store<CellPayload>) -> Option<Seen> {
         target: object,
     };
     store.apply(HOST, grant).ok()?;
-    let parked = store
-        .park(Parking {
-            host: HOST,
-            user,
-            account,
-        })
-        .ok();
+    let away = Parking {
+        host: HOST,
+        user,
+        account,
+    };
+    let parked = edges_of(store.park(away));
     let user = log_in(alloc, store)?;
     let back = Parking {
         host: HOST,
         user,
         account,
     };
-    let unparked = store.unpark(back).ok();
+    let unparked = edges_of(store.unpark(back));
     let is_denied = matches!(store.unpark(back), Ok(Parked::Denied(_)));
     store.collect(Kind::Full).ok()?;
     let labels = [store.label(user, object), store.label(HOST, account)];
@@ -79,7 +85,6 @@ fn seen(alloc: Global) -> Option<Seen> {
 // The collection leaves the host, the old user's vertex, to which the host has an edge, the object and the new user.
 #[test]
 fn comes_back_with_what_it_held(rt: HostRuntime) {
-    let one = Some(Parked::Done { edges: 1 });
-    let wanted = ([one, one], true, [Label::read_text(b"r"), None], 4);
+    let wanted = ([Some(1), Some(1)], true, [Label::read_text(b"r"), None], 4);
     assert!(rt; seen(rt.alloc()) == Some(wanted));
 }

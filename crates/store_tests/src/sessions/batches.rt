@@ -83,14 +83,10 @@ fn take_turns<L: Round, R: Wait>(
     let three = creates(rt, alloc, store, second, 3);
     let none = creates(rt, alloc, store, second, 0);
     let too_many = creates(rt, alloc, store, second, 1_025);
-    let commands = [
-        Command::Read { target: 2 },
-        Command::Read { target: 4 },
-        Command::Retire,
-        Command::List,
-    ];
-    let answered = first.call_all(rt, store, &commands[..2]);
-    let stopped = first.call_all(rt, store, &commands[2..]);
+    let reads = [Command::Read { target: 2 }, Command::Read { target: 4 }];
+    let retire = [Command::Retire, Command::List];
+    let answered = first.call_all(rt, store, &reads);
+    let stopped = first.call_all(rt, store, &retire);
     let retired = creates(rt, alloc, store, first, 1);
     ([two, three, none, too_many, retired], [answered, stopped])
 }
