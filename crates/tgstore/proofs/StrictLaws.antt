@@ -66,13 +66,6 @@ has_status left left' taken taken' start strict had on saw (Ok done) status same
     let k = seen_by left left' taken taken' (seen_if on saw) start strict had same seen bytes before leaves takes alone in
     (k.0, k.2.0, k.1, k.2.1, is ∙ status_seen start.strict had on saw k.2.0 none k.2.2)
 
--- without a watch it is 0
-pub has_lax_status : (left left' taken taken' : Option (List ℕ)) (start : Start) (saw saw' : Option Bool) (outcome : Result (Unit {0}) Stop) (status : ℕ) → start.strict ≡ false → status ≡ 0 → OnOk outcome (WatchesFrom start left left' taken taken' saw saw') → OnOk outcome (HasStatus start left left' taken taken' status)
-has_lax_status left left' taken taken' start saw saw' (Err why) status off is seen = tt
-has_lax_status left left' taken taken' start saw saw' (Ok done) status off is seen = λ bytes before leaves takes alone.
-    let k = seen bytes before leaves takes alone in
-    (k.0, k.2.0, k.1, k.2.1, is ∙ ap (λ (x : Bool). status_if x (list_any says_refusal k.2.0)) (sym off))
-
 pub lax_status : (strict saw : Bool) (status : ℕ) → status ≡ status_if strict saw → strict ≡ false → status ≡ 0
 lax_status strict saw status is lax = is ∙ ap (λ (x : Bool). status_if x saw) lax
 

@@ -18,7 +18,7 @@ use std::marker::Brand;
 use std::sync::Wait;
 use std::sync::ledger::{Blank, Ledger};
 use std::thread::Threads;
-use tg_script::{Collector, Count, OfRead, OfWrite, Sink, Source, Unwatched};
+use tg_script::{Collector, Count, OfRead, OfWrite};
 
 /// How many bytes are read, and how many are written, at once.
 pub(crate) const BLOCK: usize = 65536;
@@ -126,60 +126,17 @@ fn serve_counted<
     let (asked, read_failures) = (Count::<A>::new(asked), Count::<B>::new(read_failures));
     let mut source = Noted::new(OfRead::new(reader, asked, read_failures), start.why);
     let mut sink = OfWrite::new(writer, Count::<F>::new(write_failures));
-    let ran = serve_seen(host, &mut source, &mut sink, start);
-    let reason = source.reason(&ran.outcome, start.settings.workers);
+    let mut watch = StrictWatch::new(host.rt, start.strict);
+    let outcome = serve_with_boxes(host, &mut source, &mut sink, &mut watch, start);
+    let status = strict_status(start.strict, watch.has_refused);
+    let reason = source.reason(&outcome, start.settings.workers);
     let OfRead { reader, .. } = source.source;
     let OfWrite { writer, .. } = sink;
     Ended {
         reader,
         writer,
-        outcome: ran.outcome,
-        status: ran.status,
+        outcome,
+        status,
         reason,
     }
-}
-
-// How a run ended, and its exit status if it ran to the end of its script.
-#[derive(Clone, Copy)]
-struct RunEnd {
-    outcome: Result<(), Stop>,
-    status: u8,
-}
-
-// Serves. It asks once whether the run is strict. A run that isn't strict has no watch, so its lines don't ask again.
-fn serve_seen<T: Threads + Wait + Sync + Eprint, C: Collector, S: Source, K: Sink>(
-    host: &RunHost<T, C>,
-    source: &mut S,
-    sink: &mut K,
-    start: &Start,
-) -> RunEnd
-    requires servable { MayServe C.Ready start.now }
-    ensures served { ServesFrom start.now (S.left source.old) (S.left source.new) (K.taken sink.old) (K.taken sink.new) result.outcome }
-    ensures strict { OnOk result.outcome (HasStatus start.now (S.left source.old) (S.left source.new) (K.taken sink.old) (K.taken sink.new) result.status) }
-    ensures lax { start.now.strict ≡ false → result.status ≡ 0 }
-{
-    if start.strict {
-        return serve_watched(host, source, sink, start);
-    }
-    let outcome = serve_with_boxes(host, source, sink, &mut Unwatched, start);
-    RunEnd { outcome, status: 0 }
-}
-
-// Serves, and sees the answers to the lines.
-#[inline(never)]
-fn serve_watched<T: Threads + Wait + Sync + Eprint, C: Collector, S: Source, K: Sink>(
-    host: &RunHost<T, C>,
-    source: &mut S,
-    sink: &mut K,
-    start: &Start,
-) -> RunEnd
-    requires servable { MayServe C.Ready start.now }
-    ensures served { ServesFrom start.now (S.left source.old) (S.left source.new) (K.taken sink.old) (K.taken sink.new) result.outcome }
-    ensures strict { OnOk result.outcome (HasStatus start.now (S.left source.old) (S.left source.new) (K.taken sink.old) (K.taken sink.new) result.status) }
-    ensures lax { start.now.strict ≡ false → result.status ≡ 0 }
-{
-    let mut watch = StrictWatch::new(host.rt, start.strict);
-    let outcome = serve_with_boxes(host, source, sink, &mut watch, start);
-    let status = strict_status(start.strict, watch.has_refused);
-    RunEnd { outcome, status }
 }
