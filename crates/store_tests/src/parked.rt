@@ -10,8 +10,8 @@ use tg_store::{Kind, Limits, ParkFault, Parked, Parking, Store};
 // The worker who parks and unparks.
 const HOST: u64 = 0;
 
-// How many edges the park and the unpark put into the other vertex, and whether a second unpark is denied. Then what the
-// new user holds over the object, what the host holds over the account, and how many vertices a full collection leaves.
+// How many edges the park and the unpark put into the other vertex, and whether a second unpark is denied. Then what
+// the new user holds over the object, what the host holds over the account, and how many vertices a collection leaves.
 type Seen = ([Option<u64>; 2], bool, [Option<Label>; 2], u64);
 
 fn edges_of(answer: Result<Parked, ParkFault>) -> Option<u64> {
