@@ -17,6 +17,8 @@ mod meet;
 #[cfg(test)]
 mod opened;
 #[cfg(test)]
+mod parked;
+#[cfg(test)]
 mod payloads;
 #[cfg(test)]
 mod reopened;

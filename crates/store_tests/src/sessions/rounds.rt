@@ -5,6 +5,7 @@
 ghost use Rattle.std.specs.Prelude.{◌≡◌, true};
 ghost use Rattle.tg_shared.specs.Sessions.{MayShare};
 
+use super::batches::{BatchesSeen, batches_of};
 use super::hands::{TurnsSeen, turns_of};
 use super::story::{StoryTold, tell};
 use super::unasked::{act, collect};
@@ -20,6 +21,8 @@ use tg_store::Store;
 pub(crate) enum RoundWay {
     /// two sessions hand rights on in turns, and the store is closed
     Hands,
+    /// two sessions ask for batches in turns, and the store is closed
+    Batches,
     /// the story of two workers is played, and the store is closed with its keeper
     Tells,
     /// all calls are made but collections, and the store is closed with its keeper
@@ -37,6 +40,8 @@ pub(crate) enum RoundWay {
 pub(crate) struct RoundSeen {
     /// what the hands were answered
     pub(crate) turns: Option<TurnsSeen>,
+    /// what the batches were answered
+    pub(crate) batches: Option<BatchesSeen>,
     /// what the story came to
     pub(crate) told: Option<StoryTold>,
     /// how many entries the keeper made, and at which place its last part ended
@@ -46,6 +51,7 @@ pub(crate) struct RoundSeen {
 // Nothing is seen yet.
 const NOTHING: RoundSeen = RoundSeen {
     turns: None,
+    batches: None,
     told: None,
     of_keeper: [0, 0],
 };
@@ -132,6 +138,7 @@ fn play<L: Round, R: Wait>(
     let mut seen = NOTHING;
     match way {
         RoundWay::Hands => seen.turns = turns_of(rt, &kept.store, sessions),
+        RoundWay::Batches => seen.batches = batches_of(rt, alloc, &kept.store, sessions),
         RoundWay::Tells => seen.told = tell(rt, alloc, kept, sessions),
         RoundWay::Acts => act(rt, alloc, kept, sessions),
         RoundWay::Closes => {}
