@@ -65,8 +65,7 @@ impl Part {
         Ok(Part::numbered(alloc, copies, aged, old)?)
     }
 
-    // The part, where no number is past the limit. It is a function of its own, so that the copies aren't dropped at each
-    // exit.
+    // The part of a helper whose numbers are all below the limit.
     fn numbered(
         alloc: Global,
         copies: Copies,
