@@ -6,6 +6,7 @@ use Rattle.std.proofs.lemmas.Bool.{cases_eq, cases_lt}
 use Rattle.std.proofs.lemmas.Bool.Decides.{nat_tests}
 use Rattle.std.proofs.lemmas.List.{get_or-map, get_or-replicate, get_or_default, get_or_past, length-map, take_all}
 use Rattle.std.proofs.lemmas.List.Elements.{All-contains_itself, All-filter, All-get_or, Contains-append_right}
+use Rattle.std.proofs.lemmas.List.Sums.{AllPass-from_list_all}
 use Rattle.tg_word.specs.declared.Place.{Place}
 use Rattle.tg_word.specs.Word.{IsPlace}
 use Rattle.tg_block.specs.Cells.{IsBlock, cell_of, free_block, free_cell}
@@ -195,6 +196,13 @@ one_past limit (b ∷ numbers) h = ⊎_elim
     (found.0, Contains-append_right (b ∷ []) numbers found.0 found.1, found.2))
     (λ (past : limit ≤ b). (b, (0, omega arith, refl), past))
     (cases_lt b limit)
+
+below : (limit b : ℕ) → nat_lt b limit ≡ true → b < limit
+below limit b test = grind (arith, nat_tests)
+
+-- each number is below the limit
+pub all_below : (limit : ℕ) (numbers : List ℕ) → list_all (λ b. nat_lt b limit) numbers ≡ true → All (λ b. b < limit) numbers
+all_below limit numbers all = λ k d inside. below limit _ (AllPass-from_list_all (λ b. nat_lt b limit) numbers all k d inside)
 
 -- what two answers say of one value
 pub parts_are : {A E : Type 0} (r : Result A E) {P Q R : A → Type 0} {B C : Type 0} → ((x : A) → P x → Q x → B → C → R x) → IfOk r P → IfOk r Q → OnOk r B → OnOk r C → IfOk r R

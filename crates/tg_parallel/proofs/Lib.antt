@@ -11,4 +11,5 @@ pub mod Seating
 pub mod Reached
 pub mod Working
 pub mod Handing
+pub mod Opening
 pub mod Faults

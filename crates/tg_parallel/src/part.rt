@@ -62,6 +62,22 @@ impl Part {
         if !are_below(old, limit) {
             return Err(RoomFault::HeapFull);
         }
+        Ok(Part::numbered(alloc, copies, aged, old)?)
+    }
+
+    // The part of a helper whose numbers are all below the limit.
+    fn numbered(
+        alloc: Global,
+        copies: Copies,
+        aged: &[u64],
+        old: &[u64],
+    ) -> Result<Part, AllocError>
+        requires aged_room { length copies.aged ≤ MOST_SPACE_CELLS }
+        requires old_room { length copies.old ≤ MOST_SPACE_CELLS }
+        ensures aged { IfOk result (λ part. AreLaidOut copies.aged aged.now part.aged.items) }
+        ensures old { IfOk result (λ part. AreLaidOut copies.old old.now part.old.items) }
+        ensures left { IfOk result (λ part. part.left.items ≡ copies.spare.items) }
+    {
         let blocks = copies.finish()?;
         Ok(Part {
             aged: laid_out(alloc, aged, blocks.aged)?,
@@ -75,7 +91,12 @@ impl Part {
 fn are_below(numbers: &[u64], limit: u64) -> bool
     ensures { result ≡ list_all (λ b. nat_lt b limit) numbers.now }
 {
-    numbers.iter().all(|number| *number < limit)
+    for number in numbers {
+        if *number >= limit {
+            return false;
+        }
+    }
+    true
 }
 
 // As many of these blocks as there are numbers, each with its number, and free ones after the last.

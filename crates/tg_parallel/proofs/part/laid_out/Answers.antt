@@ -1,6 +1,6 @@
 use Rattle.std.proofs.Common.{◌≡◌, ℕ, ◌<◌, ◌+◌, List, [], ◌∷◌, ◌++◌, length, get_or, drop, ap, sym, subst, arith, ◌∙◌, ⊎_elim}
 use Rattle.std.proofs.lemmas.Bool.{cases_lt}
-use Rattle.std.proofs.lemmas.List.{drop-drop, get_or-drop, get_or_append_left, get_or_push, length_push, map-append, take_more}
+use Rattle.std.proofs.lemmas.List.{drop-drop, get_or-drop, get_or_append_left, get_or_push, length_push, map-append, take_all, take_more}
 use Rattle.tg_block.specs.Cells.{free_block}
 use Rattle.tg_parallel.specs.Parts.{Numbered, numbers_of}
 use Rattle.tg_parallel.specs.Seats.{block_at}
@@ -32,3 +32,6 @@ loop-number-preserved c =
           (block_more blocks laid n i j block before.long before.each (c.in_ok-block.ensures.block ∙ ap (λ (bs : List (List (List ℕ))). get_or bs 0 free_block) before.rest) low);
       rest = c.in_ok-block.ensures.rest ∙ ap (λ (bs : List (List (List ℕ))). drop 1 bs) before.rest ∙ drop-drop 1 i blocks;
     }
+
+pub returns-clause-numbered : goal.returns-clause-numbered
+returns-clause-numbered c = c.loop-number.invariant.numbered ∙ take_all _ _ c.loop-number-test.false
