@@ -15,6 +15,7 @@ tg_status proved_tg_grant(tg_store *store, uint64_t worker, uint64_t via, uint64
 tg_status proved_tg_remove(tg_store *store, uint64_t worker, uint64_t target, uint64_t rights, tg_denial *denial);
 tg_status proved_tg_hand(tg_store *store, const tg_handing *handing, uint64_t *removed, tg_denial *denial);
 tg_status proved_tg_park(tg_store *store, const tg_parking *parking, uint64_t *edges, tg_denial *denial);
+tg_status proved_tg_unpark(tg_store *store, const tg_parking *parking, uint64_t *edges, tg_denial *denial);
 tg_status proved_tg_write(tg_store *store, uint64_t worker, uint64_t target, uint64_t value, tg_denial *denial);
 tg_status proved_tg_append(tg_store *store, uint64_t worker, uint64_t target, uint64_t value, tg_denial *denial);
 tg_status proved_tg_read(tg_store *store, uint64_t worker, uint64_t target, uint64_t *numbers, size_t room, uint64_t *count,
@@ -87,6 +88,11 @@ tg_status tg_hand(tg_store *store, const tg_handing *handing, uint64_t *removed,
 tg_status tg_park(tg_store *store, const tg_parking *parking, uint64_t *edges, tg_denial *denial) {
     tg_denial unwanted;
     return proved_tg_park(store, parking, edges, denial == NULL ? &unwanted : denial);
+}
+
+tg_status tg_unpark(tg_store *store, const tg_parking *parking, uint64_t *edges, tg_denial *denial) {
+    tg_denial unwanted;
+    return proved_tg_unpark(store, parking, edges, denial == NULL ? &unwanted : denial);
 }
 
 tg_status tg_write(tg_store *store, uint64_t worker, uint64_t target, uint64_t value, tg_denial *denial) {

@@ -209,6 +209,12 @@ static uint64_t tell_story(void) {
     CALL(tg_law(&store, 0, 2, &law));
     if (law.law != TG_LOG || law.most != 2 || made != before)
         stop(__LINE__, 0);
+    /* A new user takes out what the account holds. */
+    CALL(tg_spawn(&store, 0, TG_GRANT, &kinds[1], &name));
+    const tg_parking unparking = { 0, name, account };
+    CALL(tg_unpark(&store, &unparking, &count, &why));
+    if (count != 8)
+        stop(__LINE__, 0);
     /* A question as if 1 had a right over the worker. The answer outlives the store. */
     const tg_edge supposed = { 1, 0, TG_TAKE };
     tg_answer answer = TG_ANSWER_INIT;

@@ -663,25 +663,36 @@ static void rights_are_withdrawn(void) {
     WANT(tg_close(&store) == TG_DONE);
 }
 
-/* That the parking is denied, on this edge or for a vertex that is named twice, with the host's grant as the only entry. */
-static void is_denied_parking(tg_store *store, tg_parking parking, tg_denial wanted) {
+/* A call that parks a user or unparks it. */
+typedef tg_status parking_call(tg_store *store, const tg_parking *parking, uint64_t *edges, tg_denial *denial);
+
+/* That the call is denied, on this edge or for a vertex that is named twice, with the host's grant of the right as the only entry. */
+static void is_denied_call(parking_call *call, tg_store *store, tg_parking parking, uint64_t right, tg_denial wanted) {
     const uint64_t before = entries_of(store);
     uint64_t count = UNTOUCHED;
     tg_record entry;
     why = (tg_denial){ 99, 99, 99, 99, 99 };
-    WANT(tg_park(store, &parking, &count, &why) == TG_DENIED && count == UNTOUCHED && memcmp(&why, &wanted, sizeof why) == 0);
+    WANT(call(store, &parking, &count, &why) == TG_DENIED && count == UNTOUCHED && memcmp(&why, &wanted, sizeof why) == 0);
     WANT(entries_of(store) == before + 1 && tg_entry(store, before, &entry, NULL, 0, NULL, 0) == TG_DONE);
     WANT(entry.worker == parking.host && entry.deed == TG_DEED_GRANT && entry.via == parking.user && entry.target == parking.account);
-    WANT(entry.rights == TG_GRANT && entry.reply == TG_REPLY_DENIED && memcmp(&entry.denial, &wanted, sizeof why) == 0);
+    WANT(entry.rights == right && entry.reply == TG_REPLY_DENIED && memcmp(&entry.denial, &wanted, sizeof why) == 0);
 }
 
-/* That the parking is refused, with no entry. */
-static void is_refused_parking(tg_store *store, tg_parking parking, tg_status status) {
+/* That the call is refused, with no entry. */
+static void is_refused_call(parking_call *call, tg_store *store, tg_parking parking, tg_status status) {
     const uint64_t before = store->is_open ? entries_of(store) : 0;
     uint64_t count = UNTOUCHED;
     why = (tg_denial){ 99, 99, 99, 99, 99 };
-    WANT(tg_park(store, &parking, &count, &why) == status && count == UNTOUCHED && why.rule == 99);
+    WANT(call(store, &parking, &count, &why) == status && count == UNTOUCHED && why.rule == 99);
     WANT(!store->is_open || entries_of(store) == before);
+}
+
+static void is_denied_parking(tg_store *store, tg_parking parking, tg_denial wanted) {
+    is_denied_call(tg_park, store, parking, TG_GRANT, wanted);
+}
+
+static void is_refused_parking(tg_store *store, tg_parking parking, tg_status status) {
+    is_refused_call(tg_park, store, parking, status);
 }
 
 /* That the entry at a place is this command, and was done. */
@@ -734,6 +745,87 @@ static void a_user_is_parked(void) {
     WANT(tg_edges_to(&store, 1, row, 4, &count) == TG_DONE && count == 1 && row[0].to == 0 && row[0].rights == TG_GRANT);
     is_refused_parking(&store, (tg_parking){ 0, 1, account }, TG_NO_SUCH_WORKER);
     WANT(tg_audit(&store, &count) == TG_DONE && count == 20 && tg_close(&store) == TG_DONE);
+}
+
+static void is_denied_unparking(tg_store *store, tg_parking parking, tg_denial wanted) {
+    is_denied_call(tg_unpark, store, parking, TG_TAKE, wanted);
+}
+
+static void is_refused_unparking(tg_store *store, tg_parking parking, tg_status status) {
+    is_refused_call(tg_unpark, store, parking, status);
+}
+
+/* A host unparks a user: the user holds what the account holds, and each command has its entry. Each denial and refusal. */
+static void a_user_is_unparked(void) {
+    const tg_edge knows[2] = { { 0, 1, TG_GRANT }, { 1, 0, TG_FREE_U } };
+    tg_store store = TG_STORE_INIT;
+    tg_target row[4] = { { UNTOUCHED, 0 }, { UNTOUCHED, 0 }, { UNTOUCHED, 0 }, { UNTOUCHED, 0 } };
+    uint64_t account, letter, user, again, count, rights;
+    is_refused_unparking(&store, (tg_parking){ 0, 1, 2 }, TG_NOT_OPEN);
+    WANT(tg_open(&store, workers, 2, knows, 2, &limits) == TG_DONE);
+    WANT(tg_create(&store, 0, TG_TAKE | TG_GRANT | TG_INSPECT, &cell, &account) == TG_DONE && account == 2);
+    WANT(tg_create(&store, 1, TG_READ | TG_WRITE, &sum, &letter) == TG_DONE && letter == 3);
+    WANT(tg_park(&store, &(tg_parking){ 0, 1, account }, &count, NULL) == TG_DONE && count == 2);
+    WANT(tg_spawn(&store, 0, TG_GRANT, &cell, &user) == TG_DONE && user == 4);
+    /* Who isn't a worker, as who was parked, and names that aren't three vertices, or over which the host hasn't the right. */
+    is_refused_unparking(&store, (tg_parking){ 0, 1, account }, TG_NO_SUCH_WORKER);
+    is_refused_unparking(&store, (tg_parking){ account, user, account }, TG_NO_SUCH_WORKER);
+    is_refused_unparking(&store, (tg_parking){ 0, UINT64_MAX, account }, TG_NO_SUCH_WORKER);
+    is_refused_unparking(&store, (tg_parking){ 99, 99, 99 }, TG_NO_SUCH_WORKER);
+    is_denied_unparking(&store, (tg_parking){ 0, 0, account }, (tg_denial){ TG_RULE_GRANT, TG_NOT_DISTINCT, 0, 0, 0 });
+    is_denied_unparking(&store, (tg_parking){ 0, user, 0 }, (tg_denial){ TG_RULE_GRANT, TG_NOT_DISTINCT, 0, 0, 0 });
+    is_denied_unparking(&store, (tg_parking){ 0, user, user }, (tg_denial){ TG_RULE_GRANT, TG_NOT_DISTINCT, 0, 0, 0 });
+    is_denied_unparking(&store, (tg_parking){ user, 0, account }, (tg_denial){ TG_RULE_GRANT, TG_MISSING, user, 0, TG_GRANT });
+    is_denied_unparking(&store, (tg_parking){ 0, user, letter }, (tg_denial){ TG_RULE_GRANT, TG_MISSING, 0, letter, TG_TAKE });
+    is_denied_unparking(&store, (tg_parking){ 0, user, UINT64_MAX }, (tg_denial){ TG_RULE_GRANT, TG_MISSING, 0, UINT64_MAX, TG_TAKE });
+    /* A user that is in use: it holds something, or the account has an edge to it. */
+    WANT(tg_grant(&store, 0, user, account, TG_INSPECT, NULL) == TG_DONE);
+    is_refused_unparking(&store, (tg_parking){ 0, user, account }, TG_IN_USE);
+    WANT(tg_remove(&store, user, account, TG_INSPECT, NULL) == TG_DONE);
+    WANT(tg_create(&store, 0, TG_TAKE | TG_GRANT, &cell, &number) == TG_DONE && number == 5);
+    WANT(tg_grant(&store, 0, number, user, TG_GRANT, NULL) == TG_DONE);
+    is_refused_unparking(&store, (tg_parking){ 0, user, number }, TG_IN_USE);
+    number = UNTOUCHED;
+    const uint64_t before = entries_of(&store);
+    WANT(tg_label(&store, user, letter, &rights) == TG_DONE && rights == 0);
+    /* It is unparked: an entry for each edge, and three more. */
+    WANT(tg_unpark(&store, &(tg_parking){ 0, user, account }, &count, NULL) == TG_DONE && count == 2 && entries_of(&store) == before + 5);
+    is_entry(&store, before, (tg_record){ .worker = 0, .deed = TG_DEED_GRANT, .via = user, .target = account, .rights = TG_TAKE });
+    is_entry(&store, before + 1, (tg_record){ .worker = user, .deed = TG_DEED_TAKE, .via = account, .target = 0, .rights = TG_FREE_U });
+    is_entry(&store, before + 2, (tg_record){ .worker = user, .deed = TG_DEED_TAKE, .via = account, .target = letter, .rights = TG_READ | TG_WRITE });
+    is_entry(&store, before + 3, (tg_record){ .worker = user, .deed = TG_DEED_REMOVE, .target = account, .rights = TG_TAKE });
+    is_entry(&store, before + 4, (tg_record){ .worker = 0, .deed = TG_DEED_REMOVE, .target = account, .rights = TG_TAKE | TG_GRANT | TG_INSPECT });
+    WANT(tg_list(&store, user, row, 4, &count) == TG_DONE && count == 2 && row[0].to == 0 && row[0].rights == TG_FREE_U);
+    WANT(row[1].to == letter && row[1].rights == (TG_READ | TG_WRITE) && row[2].to == UNTOUCHED);
+    WANT(tg_edges_to(&store, account, row, 4, &count) == TG_DONE && count == 0);
+    /* The account is used once, and the next full collection frees it. */
+    WANT(tg_spawn(&store, 0, TG_GRANT, &cell, &again) == TG_DONE);
+    is_denied_unparking(&store, (tg_parking){ 0, again, account }, (tg_denial){ TG_RULE_GRANT, TG_MISSING, 0, account, TG_TAKE });
+    WANT(tg_collect(&store, TG_FULL, &count) == TG_DONE && count == 6);
+    WANT(tg_audit(&store, &count) == TG_DONE && count == entries_of(&store) && tg_close(&store) == TG_DONE);
+}
+
+/* A user whose nursery is full gets nothing, and the account is as it was. After a collection there is room. */
+static void unparked_in_a_full_heap(void) {
+    const tg_limits small = { 1000, 20, 4 };
+    const tg_edge knows = { 0, 1, TG_GRANT };
+    tg_store store = TG_STORE_INIT;
+    uint64_t account, name, made = 0, count = UNTOUCHED, rights;
+    WANT(tg_open(&store, workers, 2, &knows, 1, &small) == TG_DONE);
+    WANT(tg_create(&store, 0, TG_TAKE | TG_GRANT, &cell, &account) == TG_DONE && account == 2);
+    for (int i = 0; i < 12; i++)
+        WANT(tg_create(&store, 0, TG_READ, &cell, &name) == TG_DONE && tg_grant(&store, 0, account, name, TG_READ, NULL) == TG_DONE);
+    while (tg_create(&store, 1, TG_READ, &cell, &name) == TG_DONE && tg_remove(&store, 1, name, TG_READ, NULL) == TG_DONE)
+        made++;
+    WANT(made > 0);
+    is_refused_unparking(&store, (tg_parking){ 0, 1, account }, TG_HEAP_FULL);
+    WANT(tg_list(&store, 1, NULL, 0, &count) == TG_DONE && count == 0);
+    WANT(tg_label(&store, 0, account, &rights) == TG_DONE && rights == (TG_TAKE | TG_GRANT));
+    WANT(tg_who_holds(&store, TG_READ, account + 1, NULL, 0, &count) == TG_DONE && count == 2);
+    WANT(tg_collect(&store, TG_FULL, &count) == TG_DONE);
+    WANT(tg_unpark(&store, &(tg_parking){ 0, 1, account }, &count, NULL) == TG_DONE && count == 12);
+    WANT(tg_audit(&store, &number) == TG_DONE && number == entries_of(&store) && tg_close(&store) == TG_DONE);
+    number = UNTOUCHED;
 }
 
 /* A user whose nursery is full is refused, and everybody holds what it held. After a collection there is room. */
@@ -1919,7 +2011,9 @@ int main(void) {
     rights_are_handed_on();
     rights_are_withdrawn();
     a_user_is_parked();
+    a_user_is_unparked();
     parked_in_a_full_heap();
+    unparked_in_a_full_heap();
     laws_are_shown();
     three_leave();
     entries_forgotten();

@@ -19,7 +19,7 @@
 /* The functions of the library, without tg_ before them. */
 #define EACH_CALL(DO) \
     DO(open) DO(close) DO(take) DO(grant) DO(remove) DO(hand) DO(write) DO(append) DO(create) DO(spawn) DO(retire) \
-    DO(leave) DO(withdraw) DO(park) DO(who_holds) DO(edges_to) DO(subjects) DO(read) DO(list) DO(inspect) DO(label) DO(law) \
+    DO(leave) DO(withdraw) DO(park) DO(unpark) DO(who_holds) DO(edges_to) DO(subjects) DO(read) DO(list) DO(inspect) DO(label) DO(law) \
     DO(law_of) DO(collect) DO(census) \
     DO(names) DO(entries) DO(first) DO(entry) DO(forget) DO(resume) DO(reopen) DO(apply_all) DO(audit) DO(auditor_open) \
     DO(auditor_feed) DO(auditor_at) DO(auditor_forget) \

@@ -23,7 +23,7 @@ from .journal import DEEDS, REPLIES, Edges, Inspect, Record
 from .journal import List as Listed
 
 CALLS = (
-    "abi open close take grant remove hand write append create spawn retire leave withdraw park who_holds edges_to subjects read list inspect label law law_of collect census "
+    "abi open close take grant remove hand write append create spawn retire leave withdraw park unpark who_holds edges_to subjects read list inspect label law law_of collect census "
     "names entries "
     "first entry forget resume reopen apply_all audit auditor_open auditor_feed auditor_at auditor_forget auditor_sweep auditor_close "
     "auditor_snapshot auditor_reopen snapshot_text snapshot_read snapshot_close could answer_kind answer_names answer_turns answer_turn answer_close view_open view_could view_close"
@@ -90,7 +90,7 @@ class VertexLaw(ctypes.Structure):
 
 
 class Parking(ctypes.Structure):
-    """A user whom a host parks."""
+    """A user whom a host parks or unparks."""
 
     _fields_ = [("host", Number), ("user", Number), ("account", Number)]
 
@@ -413,9 +413,16 @@ class Store(_Place):
         return self._count(library.tg_leave, worker_in, worker=worker_in.value)
 
     def park(self, host: int, user: int, account: int) -> int:
-        parking, edges, why = Parking(*_numbers(host, user, account)), Number(), Denial()
+        return self._park_by(library.tg_park, host, user, account)
+
+    def unpark(self, host: int, user: int, account: int) -> int:
+        return self._park_by(library.tg_unpark, host, user, account)
+
+    def _park_by(self, function: Function, *asked: int) -> int:
+        """Makes a call that parks a user or unparks it."""
+        parking, edges, why = Parking(*_numbers(*asked)), Number(), Denial()
         with LOCK:
-            status = library.tg_park(self._at, byref(parking), byref(edges), byref(why))
+            status = function(self._at, byref(parking), byref(edges), byref(why))
         if status == DENIED:
             raise denied(why.numbers(), (parking.host, parking.user, parking.account))
         if status:

@@ -31,6 +31,7 @@ COMMANDS = (
     "retire",
     "spawn",
     "take",
+    "unpark",
     "withdraw",
     "write",
 )

@@ -2,7 +2,7 @@
 from __future__ import annotations
 
 from itertools import count as from_on
-from typing import Iterable, Iterator, List, Optional, Set, Tuple, Type, TypeVar
+from typing import Callable, Iterable, Iterator, List, Optional, Set, Tuple, Type, TypeVar
 
 from ._backend import back_end
 from ._held import Held
@@ -203,16 +203,36 @@ class Store(Held, Marked):
         user stay, and what the user stored is lost with its vertex. Returns how many edges the user had.
 
         The account is a vertex that holds nothing, such as an object that the host has just made. The host has GRANT over the user and
-        over the account. It needs TAKE over the account too if a worker is to take everything out later. Whoever else has TAKE over the
-        account can take what it holds, so let the host alone have rights over it.
+        over the account. It needs TAKE over the account too if a worker is to take everything out later (`unpark`). Whoever else has TAKE
+        over the account can take what it holds, so let the host alone have rights over it.
 
         Each command has an entry: two for each edge, and three more. The first one is the host's grant of GRANT over the account to the
         user. If this grant is denied, its entry is the only one. It raises NoSuchWorker if the host or the user is no worker, and InUse
         if the account holds a right, or the user holds one over it. There is no entry then, and all labels are as they were.
         """
+        return self._park_by(self._place.park, host, user, account)
+
+    def unpark(self, host: int, user: int, account: int) -> int:
+        """Unparks a user. A new user takes out what an account holds (`park`), and the account is left, completely or not at all.
+        Afterwards the user holds exactly what the account holds, the host holds nothing over the account, and all other labels are as
+        they were. The account still holds what it held. If nobody but the host had a right over the account, the next full collection
+        frees it. Returns how many edges the account has.
+
+        The user is a worker that holds nothing yet, such as one that the host has just spawned. The host has GRANT over the user, and
+        TAKE over the account.
+
+        Each command has an entry: one for each edge, and three more. The first one is the host's grant of TAKE over the account to the
+        user. If this grant is denied, its entry is the only one. A second unparking of an account is denied, because the host has no
+        right over the account any more. It raises NoSuchWorker if the host or the user is no worker, and InUse if the user holds a
+        right, or the account holds one over it. There is no entry then, and all labels are as they were.
+        """
+        return self._park_by(self._place.unpark, host, user, account)
+
+    def _park_by(self, call: Callable[[int, int, int], int], host: int, user: int, account: int) -> int:
+        """Makes a call that parks a user or unparks it."""
         host, user = number_in(BITS, host), number_in(BITS, user)
         try:
-            return self._place.park(host, user, account)
+            return call(host, user, account)
         except Denied as denial:
             raise self._with_names(denial)
         except NoSuchWorker as refused:

@@ -306,6 +306,23 @@ class Store(_Held, Marked):
         self.remove(user, account, GRANT)
         return self.leave(user)
 
+    def unpark(self, host: int, user: int, account: int) -> int:
+        """The host grants the user TAKE over the account. The user takes each edge of the account, by rising name, and removes its TAKE.
+        Then the host removes all that it holds over the account. Returns how many edges these were. The user holds nothing before, and
+        the account has no edge to it."""
+        host, user, account = numbers_in(host, user, account)
+        self._must_work(host)
+        self._must_work(user)
+        row = self._graph.row(account)
+        if self._graph.may_grant(host, user, account, TAKE) and self._graph.in_use(account, user):
+            raise InUse
+        self.grant(host, user, account, TAKE)
+        for target, rights in row:
+            self.take(user, account, target, rights)
+        self.remove(user, account, TAKE)
+        self.remove(host, account, self._graph.label(host, account))
+        return len(row)
+
     def _must_work(self, worker: int) -> None:
         """The store is open, and the worker is active."""
         self._must_be_open()

@@ -236,6 +236,7 @@ extern "C" {
     pub fn tg_remove(store: *mut RawStore, worker: u64, target: u64, rights: u64, why: &mut RawDenial) -> u32;
     pub fn tg_hand(store: *mut RawStore, handing: &RawHanding, removed: &mut u64, why: &mut RawDenial) -> u32;
     pub fn tg_park(store: *mut RawStore, parking: &Parking, edges: &mut u64, why: &mut RawDenial) -> u32;
+    pub fn tg_unpark(store: *mut RawStore, parking: &Parking, edges: &mut u64, why: &mut RawDenial) -> u32;
     pub fn tg_write(store: *mut RawStore, worker: u64, target: u64, value: u64, why: &mut RawDenial) -> u32;
     pub fn tg_append(store: *mut RawStore, worker: u64, target: u64, value: u64, why: &mut RawDenial) -> u32;
     pub fn tg_create(store: *mut RawStore, worker: u64, rights: u64, value: &RawValue, name: &mut u64) -> u32;
