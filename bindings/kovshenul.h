@@ -730,6 +730,27 @@ enum {
 tg_status tg_could(tg_store *store, const uint64_t *silent, size_t silent_count, const tg_edge *as_if,
                    size_t as_if_count, uint64_t x, uint64_t right, uint64_t y, tg_answer *answer);
 
+/* Answers as tg_could does, and writes the kind of the answer alone, TG_NEVER .., to *kind. There is no answer to close. It takes as
+   long as tg_could, and is refused as tg_could is for a closed answer. After a refusal *kind is as it was. */
+tg_status tg_could_kind(tg_store *store, const uint64_t *silent, size_t silent_count, const tg_edge *as_if, size_t as_if_count,
+                        uint64_t x, uint64_t right, uint64_t y, uint64_t *kind);
+
+/* The question whether x could ever come to hold the right over y, for tg_could_any. 24 bytes. */
+typedef struct tg_question {
+    uint64_t x, right, y;
+} tg_question;
+
+/* Asks many questions at once, as a host does that keeps a policy: each of them is to be answered TG_NEVER. The place of the first
+   question that isn't goes to *at, and its answer to *answer, which must be closed. If each is answered TG_NEVER, `count` goes to
+   *at, and *answer is as it was. The answers are those of tg_could, as if the edges as_if were there too.
+
+   A view of the store is made once, and asked first. A question costs the time of the edges to its y if the view answers TG_NEVER.
+   Otherwise the question costs what tg_could costs. Nothing is asked after the first breach. The store is as it was, and its journal
+   gets no entry. It is refused as tg_could is, and in the same order, with TG_BAD_RIGHTS if one of the rights isn't one right.
+   After a refusal *at and *answer are as they were. */
+tg_status tg_could_any(tg_store *store, const uint64_t *silent, size_t silent_count, const tg_edge *as_if, size_t as_if_count,
+                       const tg_question *questions, size_t count, uint64_t *at, tg_answer *answer);
+
 /* Writes the kind of the answer, TG_NEVER .., to *kind. A closed answer is TG_NOT_OPEN, here and in the calls below. */
 tg_status tg_answer_kind(tg_answer *answer, uint64_t *kind);
 

@@ -219,6 +219,15 @@ static uint64_t tell_story(void) {
     const tg_edge supposed = { 1, 0, TG_TAKE };
     tg_answer answer = TG_ANSWER_INIT;
     CALL(tg_could(&store, NULL, 0, &supposed, 1, 1, TG_WRITE, 2, &answer));
+    /* Its kind alone, and the first breach of a policy, of whom the second could be. */
+    const tg_question asked[2] = { { 1, TG_READ, 999 }, { 1, TG_WRITE, 2 } };
+    tg_answer breach = TG_ANSWER_INIT;
+    CALL(tg_could_kind(&store, NULL, 0, &supposed, 1, 1, TG_WRITE, 2, &count));
+    if (count != TG_COULD)
+        stop(__LINE__, 0);
+    CALL(tg_could_any(&store, NULL, 0, &supposed, 1, asked, 2, &count, &breach));
+    if (count != 0 || tg_answer_close(&breach) != TG_DONE)
+        stop(__LINE__, 0);
     /* A view of the same, of which a question takes no memory. */
     tg_view view = TG_VIEW_INIT;
     CALL(tg_view_open(&store, NULL, 0, &supposed, 1, &view));

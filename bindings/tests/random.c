@@ -748,6 +748,21 @@ static uint64_t answer_to(struct run *run, const struct question *it) {
     return kind;
 }
 
+/* Its kind alone, and the place at which a policy of this question twice is broken, agree with its answer. */
+static void ask_simply(struct run *run, const struct question *it, uint64_t kind) {
+    const tg_question asked[2] = { { it->x, it->right, it->y }, { it->x, it->right, it->y } };
+    tg_answer answer = TG_ANSWER_INIT;
+    uint64_t alone = UNTOUCHED, at = UNTOUCHED;
+    long before = refused;
+    if (is_told(run, tg_could_kind(store_of(run), it->silent, it->silent_count, &it->as_if, it->as_if_count, it->x, it->right, it->y, &alone), before))
+        want(run, alone == kind, "another kind");
+    before = refused;
+    if (!is_told(run, tg_could_any(store_of(run), it->silent, it->silent_count, &it->as_if, it->as_if_count, asked, 2, &at, &answer), before))
+        return;
+    want(run, at == (kind == TG_NEVER ? 2 : 0) && answer.is_open == (kind != TG_NEVER), "another breach");
+    want(run, kind == TG_NEVER || (tg_answer_kind(&answer, &alone) == TG_DONE && alone == kind && tg_answer_close(&answer) == TG_DONE), "a breach");
+}
+
 /* The answer of a view to it, or nothing if memory was refused. */
 static uint64_t chance_of(struct run *run, const struct question *it) {
     tg_view view = TG_VIEW_INIT;
@@ -779,6 +794,7 @@ static void ask_some(struct run *run) {
     if (kind == UNTOUCHED)
         return;
     put_question(run, &it, kind);
+    ask_simply(run, &it, kind);
     want(run, next_entry(run, store_of(run)) == entries, "an entry of a question");
     for (int times = 0; times < 2; times++) {
         uint64_t again = answer_to(run, &it), chance = chance_of(run, &it);

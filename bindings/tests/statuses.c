@@ -1204,10 +1204,15 @@ static void longest_log(void) {
 
 static const uint64_t host[1] = { 0 };
 
-/* Whether the question is refused by this status, and the answer is as it was. */
+/* Whether the question is refused by this status, alone and after another question, and the answer is as it was. */
 static int is_unanswered(tg_store *store, const uint64_t *silent, size_t count, tg_edge supposed, uint64_t right, tg_status status) {
+    const tg_question asked[2] = { { 0, TG_READ, 1 }, { 1, right, 0 } };
     tg_answer answer = TG_ANSWER_INIT;
-    return tg_could(store, silent, count, &supposed, 1, 1, right, 0, &answer) == status && !answer.is_open && answer.handle.at == NULL;
+    uint64_t kind = UNTOUCHED, at = UNTOUCHED;
+    return tg_could(store, silent, count, &supposed, 1, 1, right, 0, &answer) == status && !answer.is_open && answer.handle.at == NULL
+        && tg_could_kind(store, silent, count, &supposed, 1, 1, right, 0, &kind) == status && kind == UNTOUCHED
+        && tg_could_any(store, silent, count, &supposed, 1, asked, 2, &at, &answer) == status && at == UNTOUCHED && !answer.is_open
+        && answer.handle.at == NULL;
 }
 
 /* Whether an answer is of this kind, with so many turns and names. */
@@ -1224,6 +1229,8 @@ static void closed_answers(void) {
     memset(&turn, UNTOUCHED, sizeof turn);
     before = turn;
     WANT(tg_could(&store, NULL, 0, NULL, 0, 0, TG_READ, 1, &answer) == TG_NOT_OPEN);
+    WANT(tg_could_kind(&store, NULL, 0, NULL, 0, 0, TG_READ, 1, &number) == TG_NOT_OPEN && is_untouched());
+    WANT(tg_could_any(&store, NULL, 0, NULL, 0, NULL, 0, &number, &answer) == TG_NOT_OPEN && is_untouched());
     WANT(tg_answer_kind(&answer, &number) == TG_NOT_OPEN && tg_answer_names(&answer, &number) == TG_NOT_OPEN);
     WANT(tg_answer_turns(&answer, &number) == TG_NOT_OPEN && is_untouched());
     WANT(tg_answer_turn(&answer, 0, &turn, NULL, 0) == TG_NOT_OPEN && memcmp(&turn, &before, sizeof turn) == 0);
@@ -1290,6 +1297,39 @@ static void questions(void) {
     WANT(tg_could(&store, NULL, 0, NULL, 0, 1, TG_WRITE, document, &answer) == TG_DONE && says(&answer, TG_UNREACHED, 0, 0));
     WANT(tg_entries(&store, &entries) == TG_DONE && entries == 2);
     WANT(tg_close(&store) == TG_DONE && says(&answer, TG_UNREACHED, 0, 0) && tg_answer_close(&answer) == TG_DONE);
+}
+
+/* Whether the kind of the answer, without the answer, is this one. */
+static int is_kind(tg_store *store, const uint64_t *silent, size_t count, uint64_t x, uint64_t right, uint64_t y, uint64_t wanted) {
+    uint64_t kind = UNTOUCHED;
+    return tg_could_kind(store, silent, count, NULL, 0, x, right, y, &kind) == TG_DONE && kind == wanted;
+}
+
+/* A policy of many questions: the first that isn't answered never is reported, with its answer. */
+static void policies(void) {
+    static const tg_edge supposed[1] = { { 1, 0, TG_TAKE } };
+    tg_store store = TG_STORE_INIT;
+    tg_answer answer = TG_ANSWER_INIT;
+    uint64_t document, at = UNTOUCHED, entries;
+    WANT(tg_open(&store, workers, 2, edges, 0, &limits) == TG_DONE);
+    WANT(tg_create(&store, 0, TG_READ | TG_WRITE, &cell, &document) == TG_DONE);
+    const tg_question asked[4] = { { 1, TG_READ, document }, { 0, TG_READ, 1 }, { 1, TG_WRITE, document }, { 0, TG_WRITE, document } };
+    WANT(tg_could_any(&store, host, 1, NULL, 0, NULL, 0, &at, &answer) == TG_DONE && at == 0 && !answer.is_open);
+    WANT(tg_could_any(&store, host, 1, NULL, 0, asked, 3, &at, &answer) == TG_DONE && at == 3 && !answer.is_open);
+    WANT(tg_could_any(&store, host, 1, NULL, 0, asked, 4, &at, &answer) == TG_DONE && at == 3 && says(&answer, TG_NOW, 0, 0));
+    at = UNTOUCHED;
+    WANT(tg_could_any(&store, host, 1, NULL, 0, asked, 4, &at, &answer) == TG_ALREADY_OPEN && at == UNTOUCHED);
+    WANT(says(&answer, TG_NOW, 0, 0) && tg_answer_close(&answer) == TG_DONE);
+    WANT(tg_could_any(&store, host, 1, supposed, 1, asked + 1, 3, &at, &answer) == TG_DONE && at == 1);
+    turns_of_one(&answer, document);
+    WANT(tg_answer_close(&answer) == TG_DONE);
+    WANT(is_kind(&store, host, 1, 1, TG_WRITE, document, TG_NEVER) && is_kind(&store, NULL, 0, 0, TG_WRITE, document, TG_NOW));
+    WANT(is_kind(&store, NULL, 0, 1, TG_READ, 3, TG_COULD));
+    /* Who isn't reached keeps what it holds, so a policy doesn't pass it. */
+    WANT(tg_retire(&store, 1) == TG_DONE && is_kind(&store, NULL, 0, 1, TG_WRITE, document, TG_UNREACHED));
+    WANT(tg_could_any(&store, host, 1, NULL, 0, asked, 3, &at, &answer) == TG_DONE && at == 0 && says(&answer, TG_UNREACHED, 0, 0));
+    WANT(tg_entries(&store, &entries) == TG_DONE && entries == 2);
+    WANT(tg_close(&store) == TG_DONE && tg_answer_close(&answer) == TG_DONE);
 }
 
 /* A name after more than 65,536 other names has no turns, because they would make all of these. The next name has some. */
@@ -2004,6 +2044,7 @@ int main(void) {
     as_many_workers_as_may_be();
     entries_read();
     questions();
+    policies();
     far_names();
     views();
     names_wanting();

@@ -337,7 +337,7 @@ static PyMethodDef store_methods[] = {
     WITH_WORDS(store, read) WITH_WORDS(store, list) WITH_WORDS(store, inspect) WITH_WORDS(store, retire)
     WITH_WORDS(store, leave) WITH_WORDS(store, park) WITH_WORDS(store, unpark) WITH_WORDS(store, label) WITH_WORDS(store, law)
     WITH_WORDS(store, law_of) WITH_WORDS(store, who_holds) WITH_WORDS(store, withdraw)
-    WITH_WORDS(store, edges_to) WITH_WORDS(store, could)
+    WITH_WORDS(store, edges_to) WITH_WORDS(store, could) WITH_WORDS(store, could_kind) WITH_WORDS(store, could_any)
     WITH_WORDS(store, collect) WITH_WORDS(store, entry) WITH_WORDS(store, forget) WITH_WORDS(store, resume)
     WITH_WORDS(store, reopen) WITH_WORDS(store, apply_all) ALONE(store, close) ALONE(store, is_open)
     ALONE(store, subjects) ALONE(store, census) ALONE(store, names) ALONE(store, entries) ALONE(store, first)

@@ -8,13 +8,14 @@ from ._backend import back_end
 from ._held import Held
 from ._library import BITS, number_in, short_of
 from ._marks import Marked
-from ._packed import bytes_of, commands_in, entry_in, limits_in, opening_in, scene_in, value_in
+from ._packed import bytes_of, commands_in, entry_in, limits_in, opening_in, questions_in, scene_in, value_in
 from ._refusals import BadPlace, Denied, NoSuchWorker, Refused, refusal
 from ._snapshot import Snapshot
 from ._values import RIGHTS, Counts, Edge, Kind, Law, Limits, Rights, Target, Value, law_told
 from ._view import View
 from .journal import Deed, Entry, Reply, entry_of
-from .outlook import Outlook, outlook_of
+from .outlook import OUTLOOKS, Breach, Outlook, outlook_of
+from .outlook import Kind as KindOf
 
 # The number of a list or an inspect that has no effect.
 ROOM = 64
@@ -326,6 +327,36 @@ class Store(Held, Marked):
         reaches.
         """
         return outlook_of(*self._place.could(*scene_in(self._silent(silent), as_if), x, right, y))
+
+    def could_kind(
+        self,
+        x: int,
+        right: int,
+        y: int,
+        silent: Optional[Iterable[int]] = None,
+        as_if: Iterable[Tuple[int, int, int]] = (),
+    ) -> KindOf:
+        """Answers as `could` does, and returns the type of the answer alone, such as `outlook.Never`. It takes as long as `could`, and
+        raises what `could` raises."""
+        return OUTLOOKS[self._place.could_kind(*scene_in(self._silent(silent), as_if), x, right, y)]
+
+    def could_any(
+        self,
+        questions: Iterable[Tuple[int, int, int]],
+        silent: Optional[Iterable[int]] = None,
+        as_if: Iterable[Tuple[int, int, int]] = (),
+    ) -> Optional[Breach]:
+        """Asks many questions at once, each of which is to be answered `Never`. Each is x, a right and y, as of `could`. Returns the
+        place of the first one that isn't answered `Never`, with its answer, or None if each is. So a host asks about a policy.
+
+            if store.could_any([(it, WRITE, document) for it in plugins], silent=[host]) is None:
+                print("no plugin ever holds w over the document")
+
+        A view is made once, and asked first. A question costs the time of the edges to its y if the view answers `Never`. Otherwise it
+        costs what `could` costs. Nothing is asked after the first that isn't answered `Never`. It raises what `could` raises.
+        """
+        told = self._place.could_any(*scene_in(self._silent(silent), as_if), questions_in(questions))
+        return None if told is None else Breach(told[0], outlook_of(*told[1]))
 
     def view(self, silent: Optional[Iterable[int]] = None, as_if: Iterable[Tuple[int, int, int]] = ()) -> View:
         """Opens a view of the vertices that the workers reach, in which the silent workers take no turns, as if these edges were there

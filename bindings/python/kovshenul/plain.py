@@ -56,7 +56,7 @@ from ._snapshot import Snapshot, Vertex
 from ._texts import end_text, opening_text
 from ._values import MOST_NUMBERS, Cell, Counts, Edge, Kind, Law, Limits, Log, Max, Rights, Sum, Target, Value
 from .journal import Create, Deed, Entry, Reply, Spawn
-from .outlook import Chance, Outlook
+from .outlook import Breach, Chance, Outlook
 
 READ, WRITE, TAKE, GRANT, APPEND, INSPECT, FREE_U, FREE_V = Rights
 FULL, NURSERY = Kind
@@ -398,6 +398,27 @@ class Store(_Held, Marked):
         x, right, y = numbers_in(x, right, y)
         must_be_one(right)
         return self._foresight(names, edges).answer(x, right, y)
+
+    def could_kind(
+        self, x: int, right: int, y: int, silent: Optional[Iterable[int]] = None, as_if: Iterable[Pair] = ()
+    ) -> outlook.Kind:
+        """The type of the answer of `could`."""
+        return type(self.could(x, right, y, silent, as_if))
+
+    def could_any(
+        self, questions: Iterable[Pair], silent: Optional[Iterable[int]] = None, as_if: Iterable[Pair] = ()
+    ) -> Optional[Breach]:
+        """The place of the first question that isn't answered `Never`, with its answer, or None if each is."""
+        names, edges = numbers_in(*self._silent(silent)), edges_in(as_if)
+        asked = [numbers_in(x, right, y) for x, right, y in questions]
+        for _, right, _ in asked:
+            must_be_one(right)
+        foresight = self._foresight(names, edges)
+        for at, question in enumerate(asked):
+            answer = foresight.answer(*question)
+            if answer != outlook.Never():
+                return Breach(at, answer)
+        return None
 
     def view(self, silent: Optional[Iterable[int]] = None, as_if: Iterable[Pair] = ()) -> View:
         """A view of the vertices that the workers reach at the moment."""

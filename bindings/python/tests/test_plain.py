@@ -229,11 +229,14 @@ class Run:
         made = self.model._graph.made
         if made > SMALL:
             return
-        scene, ends = self.draw.scene(self.model._graph), range(made + 2)
+        scene, ends, asked = self.draw.scene(self.model._graph), range(made + 2), []
         for _ in range(QUESTIONS):
             x, right, y = self.draw.rng.choice(ends), self.draw.rng.choice([READ, TAKE, GRANT]), self.draw.rng.choice(ends)
             told, wanted = (outcome(it.could, x, right, y, *scene) for it in (self.store, self.model))
             self.must_equal(kind_of(told), kind_of(wanted), "could", (x, right, y, *scene))
+            asked.append((x, right, y))
+        told, wanted = (outcome(it.could_any, asked, *scene) for it in (self.store, self.model))
+        self.must_equal(breach_of(told), breach_of(wanted), "could_any", (asked, *scene))
         self.ask_views(scene, ends)
 
     def ask_views(self, scene, ends):
@@ -249,6 +252,11 @@ class Run:
 def kind_of(answer):
     """An answer without its turns, which are each side's own."""
     return "could" if isinstance(answer, COULD) else answer
+
+
+def breach_of(breach):
+    """The place of a breach, and its answer without its turns. Or another outcome, as it is."""
+    return (breach.at, kind_of(breach.answer)) if isinstance(breach, outlook.Breach) else breach
 
 
 def run(seed, store_kind=Store):
@@ -437,7 +445,7 @@ class Surface(unittest.TestCase):
         self.assertRaises(NotOpen, view.could, 0, READ, 1)
         calls = [("read", 0, 1), ("list", 0), ("create", 0, READ, Cell(0)), ("leave", 0), ("park", 0, 1, 2), ("unpark", 0, 1, 2), ("label", 0, 1), ("subjects",)]
         calls += [("law", 0, 1), ("law_of", 0)]
-        calls += [("hand", 0, 1, 1, 0, READ), ("withdraw", 1, READ), ("who_holds", READ, 1), ("edges_to", 1), ("could", 0, READ, 1), ("view",), ("collect",), ("names",), ("census",)]
+        calls += [("hand", 0, 1, 1, 0, READ), ("withdraw", 1, READ), ("who_holds", READ, 1), ("edges_to", 1), ("could", 0, READ, 1), ("could_kind", 0, READ, 1), ("could_any", []), ("view",), ("collect",), ("names",), ("census",)]
         calls += [("entries",), ("entry", 0), ("forget", 0), ("audit",), ("go_on", 0, [kovshenul.journal.Entry(0, kovshenul.journal.List(), kovshenul.journal.Done())])]
         for call, *arguments in calls:
             self.assertRaises(NotOpen, getattr(model, call), *arguments)

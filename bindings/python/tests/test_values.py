@@ -162,7 +162,7 @@ class BackEnds(unittest.TestCase):
             calls += [(store.write, 0, 1, 1), (store.append, 0, 1, 1), (store.create, 0, 1, Cell(0)), (store.spawn, 0, 1, Cell(0))]
             calls += [(store.list, 0), (store.inspect, 0, 1), (store.retire, 0), (store.leave, 0), (store.label, 0, 1)]
             calls += [(store.park, 0, 1, 2), (store.unpark, 0, 1, 2), (store.law, 0, 1), (store.law_of, 1)]
-            calls += [(store.who_holds, 1, 1), (store.withdraw, 1, 1), (store.edges_to, 1), (store.could, 0, 1, 1), (store.view,), (store.collect,), (store.census,)]
+            calls += [(store.who_holds, 1, 1), (store.withdraw, 1, 1), (store.edges_to, 1), (store.could, 0, 1, 1), (store.could_kind, 0, 1, 1), (store.could_any, []), (store.view,), (store.collect,), (store.census,)]
             calls += [(it,) for it in (store.names, store.subjects, store.entries, store.first, store.audit)]
             calls += [(store.entry, 0), (store.forget, 0), (auditor.feed, store), (auditor.forget, store, 0), (auditor.sweep,)]
             calls += [(view.could, 0, 1, 1), (lambda: auditor.at,), (Store, [Cell(0)]), (Auditor, [Cell(0)])]
@@ -178,7 +178,7 @@ class BackEnds(unittest.TestCase):
         store, auditor, view = places
         for place in places:
             self.assertRaises(TypeError, place.open)
-        calls = [(store.park, 1, 2), (store.unpark, 1, 2), (store.law, 1), (store.law_of,), (store.take, 1, 2, 3), (store.hand, 1, 2, 3, 4), (store.reopen, b""), (store.read,), (store.list, 1), (store.could, b"", b"", 1, 2), (auditor.feed, None)]
+        calls = [(store.park, 1, 2), (store.unpark, 1, 2), (store.law, 1), (store.law_of,), (store.take, 1, 2, 3), (store.hand, 1, 2, 3, 4), (store.reopen, b""), (store.read,), (store.list, 1), (store.could, b"", b"", 1, 2), (store.could_kind, b"", b"", 1, 2), (store.could_any, b"", b""), (auditor.feed, None)]
         calls += [(auditor.forget, store), (view.could, 1, 2), (view.open, auditor, b"", b""), (view.open, store, b"", "")]
         for call, *words in calls:
             self.assertRaises(TypeError, call, *words)
