@@ -50,6 +50,8 @@ tg_status proved_tg_could_any(tg_store *store, const uint64_t *silent, size_t si
 tg_status proved_tg_answer_turn(tg_answer *answer, uint64_t at, tg_record *out, uint64_t *numbers, size_t room);
 tg_status proved_tg_view_open(tg_store *store, const uint64_t *silent, size_t silent_count, const tg_edge *as_if, size_t as_if_count,
                               tg_view *view);
+tg_status proved_tg_view_could_as_if(tg_view *view, const tg_edge *as_if, size_t as_if_count, uint64_t x, uint64_t right, uint64_t y,
+                                     uint64_t *kind);
 tg_status proved_tg_auditor_open(tg_auditor *auditor, const tg_value *workers, size_t worker_count, const tg_edge *edges,
                                  size_t edge_count, const tg_limits *limits);
 tg_status proved_tg_auditor_feed(tg_auditor *auditor, tg_store *store, uint64_t *count);
@@ -226,6 +228,13 @@ tg_status tg_view_open(tg_store *store, const uint64_t *silent, size_t silent_co
     if (as_if == NULL && as_if_count == 0)
         as_if = (const tg_edge *)nothing;
     return proved_tg_view_open(store, silent, silent_count, as_if, as_if_count, view);
+}
+
+tg_status tg_view_could_as_if(tg_view *view, const tg_edge *as_if, size_t as_if_count, uint64_t x, uint64_t right, uint64_t y,
+                              uint64_t *kind) {
+    if (as_if == NULL && as_if_count == 0)
+        as_if = (const tg_edge *)nothing;
+    return proved_tg_view_could_as_if(view, as_if, as_if_count, x, right, y, kind);
 }
 
 tg_status tg_auditor_open(tg_auditor *auditor, const tg_value *workers, size_t worker_count, const tg_edge *edges, size_t edge_count,

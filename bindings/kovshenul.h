@@ -795,6 +795,16 @@ tg_status tg_view_open(tg_store *store, const uint64_t *silent, size_t silent_co
    TG_NOT_OPEN comes exactly if the view is closed. */
 tg_status tg_view_could(tg_view *view, uint64_t x, uint64_t right, uint64_t y, uint64_t *kind);
 
+/* Answers as tg_view_could does, as if the edges as_if were there too. So a host asks about a grant, by the edge from the vertex that
+   is given the rights to their target. If an edge joins two parts of the view, the answer is TG_PERHAPS, and tg_could answers. The view
+   is as it was. It takes memory for the edges alone.
+
+   It is refused in this order. TG_BAD_RIGHTS comes if right isn't one right, or an edge's rights are none. TG_NOT_OPEN comes exactly
+   if the view is closed then. TG_BAD_EDGE comes if an edge joins a vertex to itself, or has an end that no worker reached at the
+   opening. TG_OUT_OF_MEMORY may come before it. After a refusal *kind is as it was. */
+tg_status tg_view_could_as_if(tg_view *view, const tg_edge *as_if, size_t as_if_count, uint64_t x, uint64_t right, uint64_t y,
+                              uint64_t *kind);
+
 /* Gives back all memory of the view. *view is closed then, and may be opened again. */
 tg_status tg_view_close(tg_view *view);
 

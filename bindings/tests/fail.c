@@ -233,7 +233,12 @@ static uint64_t tell_story(void) {
     CALL(tg_view_open(&store, NULL, 0, &supposed, 1, &view));
     before = made;
     CALL(tg_view_could(&view, 1, TG_WRITE, 2, &count));
-    if (count != TG_PERHAPS || made != before || tg_view_close(&view) != TG_DONE)
+    if (count != TG_PERHAPS || made != before)
+        stop(__LINE__, 0);
+    /* With a supposed edge it takes memory for the edge. */
+    const tg_edge read = { 1, 2, TG_READ };
+    CALL(tg_view_could_as_if(&view, &read, 1, 1, TG_WRITE, 2, &count));
+    if (count != TG_PERHAPS || tg_view_close(&view) != TG_DONE)
         stop(__LINE__, 0);
     /* Of a batch each list, and each growth of the journal, may be refused. */
     const tg_command commands[5] = {

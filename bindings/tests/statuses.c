@@ -1364,6 +1364,12 @@ static int sees(tg_view *view, uint64_t x, uint64_t y, uint64_t kind) {
     return tg_view_could(view, x, TG_WRITE, y, &told) == TG_DONE && told == kind;
 }
 
+/* Whether the view answers this, or is refused by this status, as if the edge were there too. */
+static int sees_as_if(tg_view *view, tg_edge edge, uint64_t x, uint64_t right, uint64_t y, tg_status status, uint64_t kind) {
+    uint64_t told = UNTOUCHED;
+    return tg_view_could_as_if(view, &edge, 1, x, right, y, &told) == status && told == kind;
+}
+
 /* Whether a question about these rights is refused, and has no answer. */
 static int is_untold(tg_view *view, uint64_t rights) {
     uint64_t told = UNTOUCHED;
@@ -1376,6 +1382,9 @@ static void closed_views(void) {
     WANT(tg_view_open(&store, NULL, 0, NULL, 0, &view) == TG_NOT_OPEN && !view.is_open && view.handle.at == NULL);
     WANT(tg_view_could(&view, 0, TG_READ, 1, &number) == TG_NOT_OPEN && is_untouched());
     WANT(tg_view_could(&view, 0, TG_READ | TG_WRITE, 1, &number) == TG_BAD_RIGHTS && is_untouched());
+    WANT(tg_view_could_as_if(&view, NULL, 0, 0, TG_READ, 1, &number) == TG_NOT_OPEN && is_untouched());
+    WANT(sees_as_if(&view, (tg_edge){ 0, 1, 0 }, 0, TG_READ, 1, TG_BAD_RIGHTS, UNTOUCHED));
+    WANT(sees_as_if(&view, (tg_edge){ 0, 1, TG_READ }, 0, 0, 1, TG_BAD_RIGHTS, UNTOUCHED));
     WANT(tg_view_close(&view) == TG_NOT_OPEN && !view.is_open && view.handle.at == NULL);
 }
 
@@ -1405,6 +1414,11 @@ static void views(void) {
     WANT(view.is_open && view.handle.at == kept.handle.at && sees(&view, 1, document, TG_NEVER));
     WANT(sees(&view, 0, document, TG_PERHAPS) && sees(&view, document, 0, TG_NEVER) && sees(&view, UINT64_MAX, 0, TG_NEVER));
     WANT(is_untold(&view, 0) && is_untold(&view, TG_READ | TG_WRITE) && is_untold(&view, 256));
+    WANT(sees_as_if(&view, (tg_edge){ 1, document, TG_READ }, 1, TG_WRITE, document, TG_DONE, TG_NEVER));
+    WANT(sees_as_if(&view, (tg_edge){ 1, document, TG_READ }, 1, TG_READ, document, TG_DONE, TG_PERHAPS));
+    WANT(sees_as_if(&view, supposed[0], 1, TG_WRITE, document, TG_DONE, TG_PERHAPS) && sees(&view, 1, document, TG_NEVER));
+    WANT(sees_as_if(&view, (tg_edge){ 1, 1, TG_READ }, 1, TG_READ, document, TG_BAD_EDGE, UNTOUCHED));
+    WANT(sees_as_if(&view, (tg_edge){ 9, 1, TG_READ }, 1, TG_READ, document, TG_BAD_EDGE, UNTOUCHED));
     WANT(tg_view_open(&store, host, 1, supposed, 1, &other) == TG_DONE && sees(&other, 1, document, TG_PERHAPS));
     WANT(tg_view_close(&other) == TG_DONE && !other.is_open && other.handle.at == NULL);
     WANT(tg_retire(&store, 1) == TG_DONE && tg_remove(&store, 0, 1, edges[0].rights, &why) == TG_DONE);

@@ -5,7 +5,7 @@ from typing import TYPE_CHECKING, Iterable, Optional, Tuple
 
 from ._backend import back_end
 from ._held import Held, place_of
-from ._packed import scene_in
+from ._packed import edges_in, scene_in
 from .outlook import OUTLOOKS, Chance
 
 if TYPE_CHECKING:
@@ -37,3 +37,11 @@ class View(Held):
         does, whatever those who act do, that no worker reached x, and Perhaps, which says nothing. It raises BadRights if it
         isn't one right."""
         return OUTLOOKS[self._place.could(x, right, y)]()
+
+    def could_as_if(self, x: int, right: int, y: int, as_if: Iterable[Tuple[int, int, int]]) -> Chance:
+        """Answers as `could` does, as if these edges were there too. So a host asks about a grant, by the edge from the vertex that is
+        given the rights to their target. If an edge joins two parts of the view, the answer is Perhaps, and `Store.could` answers.
+
+        It raises BadRights if it isn't one right. It raises BadEdge if an edge joins a vertex to itself, or has an end that no worker
+        reached at the opening."""
+        return OUTLOOKS[self._place.could_as_if(edges_in(as_if), x, right, y)]()

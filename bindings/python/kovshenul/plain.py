@@ -528,5 +528,21 @@ class View(_Held):
         x, right, y = numbers_in(x, right, y)
         must_be_one(right)
         self._must_be_open()
-        answer = self._foresight.answer(x, right, y)
-        return answer if isinstance(answer, (outlook.Never, outlook.Unreached)) else outlook.Perhaps()
+        return _chance(self._foresight.answer(x, right, y))
+
+    def could_as_if(self, x: int, right: int, y: int, as_if: Iterable[Pair]) -> Chance:
+        """As `could`, as if these edges were there too. The store's view may say Perhaps where this one says Never."""
+        edges = edges_in(as_if)
+        x, right, y = numbers_in(x, right, y)
+        must_be_one(right)
+        must_be_rights(*[rights for _, _, rights in edges])
+        self._must_be_open()
+        foresight = self._foresight
+        if not all(source != target and {source, target} <= foresight.reached for source, target, _ in edges):
+            raise BadEdge
+        return _chance(Foresight(foresight.graph.with_edges(edges), foresight.silent).answer(x, right, y))
+
+
+def _chance(answer: Outlook) -> Chance:
+    """The answer of a view to a question that has this answer."""
+    return answer if isinstance(answer, (outlook.Never, outlook.Unreached)) else outlook.Perhaps()

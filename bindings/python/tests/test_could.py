@@ -165,6 +165,11 @@ class Could(unittest.TestCase):
             self.assertIsInstance(view, View)
             self.assertEqual(store.entries(), entries)
             self.assertEqual(view.could(1, WRITE, document), outlook.Never())
+            self.assertEqual(view.could_as_if(1, WRITE, document, [(1, document, READ)]), outlook.Never())
+            self.assertEqual(view.could_as_if(1, READ, document, [(1, document, READ)]), outlook.Perhaps())
+            for edge, refusal in {(1, 1, READ): BadEdge, (1, 99, READ): BadEdge, (1, 0, 0): BadRights}.items():
+                self.assertRaises(refusal, view.could_as_if, 1, READ, document, [edge])
+            self.assertRaises(BadRights, view.could_as_if, 1, 0, document, [])
             self.assertEqual(view.could(0, WRITE, document), outlook.Perhaps())
             self.assertEqual(other.could(1, WRITE, document), outlook.Perhaps())
             store.retire(2)
@@ -173,6 +178,7 @@ class Could(unittest.TestCase):
         self.assertEqual(view.could(1, WRITE, document), outlook.Never())
         view.close()
         self.assertRaises(NotOpen, view.could, 1, WRITE, document)
+        self.assertRaises(NotOpen, view.could_as_if, 1, WRITE, document, [])
         self.assertRaises(BadRights, view.could, 1, READ | WRITE, document)
         self.assertRaises(TypeError, pickle.dumps, other)
 

@@ -247,6 +247,15 @@ class Run:
         for x in ends:
             for y in ends:
                 self.must_equal(*(view.could(x, READ, y) for view in views), "a view's could", (x, READ, y), scene)
+                self.ask_as_if(views, x, y, scene)
+
+
+    def ask_as_if(self, views, x, y, scene):
+        """The store's view may say that it doesn't know, where the model's says never."""
+        edge = self.draw.name(self.model._graph), self.draw.name(self.model._graph), self.draw.rights()
+        told, wanted = (outcome(view.could_as_if, x, READ, y, [edge]) for view in views)
+        if told != outlook.Perhaps() or wanted != outlook.Never():
+            self.must_equal(told, wanted, "a view's could as if", (x, READ, y, edge), scene)
 
 
 def kind_of(answer):

@@ -404,6 +404,15 @@ extern "C" {
         view: *mut RawView,
     ) -> u32;
     pub fn tg_view_could(view: *mut RawView, x: u64, right: u64, y: u64, kind: &mut u64) -> u32;
+    pub fn tg_view_could_as_if(
+        view: *mut RawView,
+        as_if: *const RawEdge,
+        as_if_count: usize,
+        x: u64,
+        right: u64,
+        y: u64,
+        kind: &mut u64,
+    ) -> u32;
     pub fn tg_view_close(view: *mut RawView) -> u32;
     pub fn tg_auditor_open(
         auditor: *mut RawAuditor,

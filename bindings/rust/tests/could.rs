@@ -140,4 +140,7 @@ fn what_a_view_refuses() {
     assert_eq!(store.view(&[], &[edge(0, 2, Rights::READ)]).unwrap_err(), Error::BadEdge);
     let view = store.view(&[], &[]).unwrap();
     assert_eq!(view.could(0, Rights::READ | Rights::WRITE, 1), Err(Error::BadRights));
+    assert_eq!(view.could_as_if(0, Rights::NONE, 1, &[]), Err(Error::BadRights));
+    assert_eq!(view.could_as_if(0, Rights::READ, 1, &[edge(0, 1, Rights::NONE)]), Err(Error::BadRights));
+    assert_eq!(view.could_as_if(0, Rights::READ, 1, &[edge(1, 1, Rights::READ)]), Err(Error::BadEdge));
 }

@@ -1,6 +1,7 @@
 -- Policies of C: what an answer says that is never, and the right that was asked about.
-use Rattle.std.proofs.Common.{◌≡◌, ◌⊎◌, ◌∙◌, ℕ, ◌≤◌, ◌==◌, Bool, true, false, cond, List, Option, Some, None, length, sym, ap}
+use Rattle.std.proofs.Common.{◌≡◌, ◌⊎◌, ◌∙◌, ℕ, ◌≤◌, ◌==◌, Bool, true, false, cond, List, Some, length, sym}
 use Rattle.std.proofs.lemmas.Bool.{false≢true}
+use Rattle.std.proofs.lemmas.Option.{same_Some}
 use Rattle.tg_rights.specs.RightSet.{right_of_bit}
 use Rattle.tg_rights.specs.declared.Right.{Right}
 use Rattle.tg_model.specs.Graph.{ProtectionGraph, IsReachable}
@@ -11,13 +12,9 @@ use Rattle.tg_could.specs.declared.reached.ReachedAnswer.{ReachedAnswer}
 use Rattle.tg_could.specs.declared.reached.ReachedAnswer.TheVariants.{Unreached, Of}
 use Rattle.tg_c.specs.Could.{kind_in}
 
-right_in : Option Right → Right → Right
-right_in (Some right) other = right
-right_in None other = other
-
 -- a bit is that of one right
 pub same_right : (bits : ℕ) (r right : Right) → right_of_bit bits ≡ Some r → right_of_bit bits ≡ Some right → r ≡ right
-same_right bits r right one other = ap (λ (o : Option Right). right_in o r) (sym one ∙ other)
+same_right bits r right one other = same_Some r right (sym one ∙ other)
 
 -- an answer of the kind 0 is never
 pub never_told : (silent : List ℕ) (g : ProtectionGraph) (x : ℕ) (r : Right) (y : ℕ) (told : ReachedAnswer) → (kind_in told == 0) ≡ true → IsToldOf silent g x r y told

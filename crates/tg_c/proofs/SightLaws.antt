@@ -1,19 +1,22 @@
 -- Names of whom a picture shows, and what a view shows by them.
-use Rattle.std.proofs.Common.{◌≡◌, ◌↔◌, ◌⊎◌, inl, inr, ⊎_elim, ℕ, ◌+◌, ◌<◌, ◌≤◌, ◌==◌, nat_eq, Bool, true, false, cond, List, [], ◌∷◌, ◌++◌, Option, Some, None, IfSome, get_or, length, refl, take, sym, ap, ◌∙◌, subst, arith, eq-eqb}
-use Rattle.std.specs.List.{Contains, list_any}
-use Rattle.std.proofs.lemmas.Bool.{cases_Bool, cases_eq, cases_lt, eqb-true, ne_eqb, false≢true}
+use Rattle.std.proofs.Common.{◌≡◌, ◌↔◌, ◌⊎◌, inl, inr, ⊎_elim, ℕ, ◌+◌, ◌<◌, ◌≤◌, ◌==◌, ◌&&◌, nat_eq, Bool, true, false, cond, List, [], ◌∷◌, ◌++◌, Option, Some, None, IfSome, get_or, length, refl, take, sym, ap, ◌∙◌, subst, arith, eq-eqb}
+use Rattle.std.specs.List.{All, Contains, list_any}
+use Rattle.std.proofs.lemmas.Bool.{and_parts, cases_Bool, cases_eq, cases_lt, eqb-true, ne_eqb, false≢true}
 use Rattle.std.proofs.lemmas.List.{take_all, take_more}
-use Rattle.std.proofs.lemmas.List.Elements.{Contains-append_left, Contains-push, Contains-push_cases}
+use Rattle.std.proofs.lemmas.List.Elements.{All-head, All-tail, Contains-append_left, Contains-push, Contains-push_cases}
 use Rattle.tg_model.specs.declared.edge.Edge.{Edge}
-use Rattle.tg_model.specs.Graph.{ProtectionGraph, IsReachable, IsSound}
+use Rattle.tg_model.specs.Graph.{ProtectionGraph, HasEdge, IsReachable, IsSound}
+use Rattle.tg_model.specs.Opened.{label_in}
 use Rattle.tg_model.specs.Picture.{Shown}
 use Rattle.tg_model.specs.Walks.{Walk-within}
 use Rattle.tg_rights.specs.declared.Right.{Right}
-use Rattle.tg_could.specs.Reached.{IsLedTo, IsReachedPicture, JoinReached, with_edges}
+use Rattle.tg_rights.specs.RightSet.{RightSet, is_none_held, union}
+use Rattle.tg_rights.proofs.RightLaws.{some_union}
+use Rattle.tg_could.specs.Reached.{IsLedTo, IsReachedPicture, JoinReached, JoinsReached, with_edges}
 use Rattle.tg_could.specs.Turns.{NeverHolds}
 use Rattle.tg_could.specs.View.{IsViewOf}
-use Rattle.tg_could.proofs.ReachedLaws.{Known, never_on, reached_shown, relabelled, shown_reached}
-use Rattle.tg_c.specs.View.{AreShown, IsShownIn, IsSightOf, is_seen}
+use Rattle.tg_could.proofs.ReachedLaws.{Agree, Known, never_on, reached_shown, relabelled, shown_reached}
+use Rattle.tg_c.specs.View.{AreShown, IsShownIn, IsSightOf, JoinsSeen, is_seen}
 use Rattle.tg_c.specs.declared.view.sight.ReachedView.{ReachedView}
 use Rattle.tg_c.specs.declared.view.sight.Sight.{Sight}
 use Rattle.tg_could.proofs.AsIfLaws.{agrees, held_edge, more, reached_before, reached_then, seen, seen_by, supposed_sound}
@@ -121,6 +124,25 @@ no_reach g none =
     (λ q is. let low = (subst (λ (names : List ℕ). Contains names q) none is).1 in omega arith)
     (λ a b no edge. no)
 
+-- an edge of edges that join vertices that are reached
+joined : (g : ProtectionGraph) (es : List Edge) → JoinReached g es → (a b : ℕ) → HasEdge (label_in es) a b → IsReachable g b
+joined g [] all a b edge = absurd (cc edge)
+joined g (e ∷ es) all a b edge = by_test (joined g es (All-tail (JoinsReached g) e es all) a b) (cases_Bool ((a == e.from) && (b == e.to)))
+  where
+    by_test : (HasEdge (label_in es) a b → IsReachable g b) → (((a == e.from) && (b == e.to)) ≡ true) ⊎ (((a == e.from) && (b == e.to)) ≡ false) → IsReachable g b
+    by_test rest (inl t) = subst (IsReachable g) (sym (eqb-true b e.to (and_parts (a == e.from) (b == e.to) t).1)) (All-head (JoinsReached g) e es all).to
+    by_test rest (inr f) = rest (sym (ap (λ t. is_none_held (cond t (union e.label (label_in es a b)) (label_in es a b))) f) ∙ edge)
+
+-- labels that agree do so with more edges, each between two vertices that are reached
+agree_with : (known : ℕ → Type 0) (g : ProtectionGraph) (label : ℕ → ℕ → RightSet) → Agree known g label → ((x : ℕ) → IsReachable g x → known x)
+    → (es : List Edge) → JoinReached g es → Agree known (with_edges g es) (λ a b. union (label a b) (label_in es a b))
+agree_with known g label agree reached es all = record {
+  subjects = agree.subjects;
+  later = agree.later;
+  closed = λ a b is edge. ⊎_elim (λ old. agree.closed a b is old) (λ new. reached b (joined g es all a b new)) (some_union (g.label a b) (label_in es a b) edge);
+  labels = λ a b is. ap (λ s. union s (label_in es a b)) (agree.labels a b is);
+}
+
 module _ (g : ProtectionGraph) (sound : IsSound g) (es : List Edge) (all : JoinReached g es) (p : Shown) (picture : IsReachedPicture p g) (silent : List ℕ) (sight : Sight) (made : sight.made ≡ p.made) where
   sight_by : IfSome sight.seen (λ seen. IsViewOf silent (more g sound es all p picture) seen.view) → (sight.seen ≡ None → g.subjects ≡ []) → ((x : ℕ) → (is_seen sight.seen x ≡ true) ↔ IsShownIn p x) → IsSightOf silent (with_edges g es) sight
   sight_by view nobody shown = record {
@@ -133,6 +155,10 @@ module _ (g : ProtectionGraph) (sound : IsSound g) (es : List Edge) (all : JoinR
     back = λ x r y known never.
         never_on silent (with_edges g es) (seen g sound es all p picture) (Known g) (agrees g sound es all p picture) x
         (⊎_elim (λ reached. inl (reached_before g sound es all x reached)) inr known) r y never;
+    back_with = λ edges joins x r y known never.
+        never_on silent (with_edges (with_edges g es) edges) (λ a b. union (seen g sound es all p picture a b) (label_in edges a b)) (Known g)
+        (agree_with (Known g) (with_edges g es) (seen g sound es all p picture) (agrees g sound es all p picture) (λ z reached. inl (reached_before g sound es all z reached)) edges joins)
+        x (⊎_elim (λ reached. inl (reached_before g sound es all x reached)) inr known) r y never;
     made = made ∙ sym picture.made;
     reached = λ x. (
       λ t. reached_then g sound es all x (shown_reached p g picture x ((shown x).0 t)),
@@ -167,3 +193,17 @@ known_by silent g sight is x known =
     (λ (low : x < g.made). ⊎_elim (λ t. inl ((is.reached x).0 t)) (λ f. absurd (known (let same = is.made in omega (arith, same, low), f))) (cases_Bool (is_seen sight.seen x)))
     inr
     (cases_lt x g.made)
+
+-- ---- supposed edges
+
+-- edges between vertices that were seen join vertices that are reached, and the other way round
+module _ (silent : List ℕ) (g : ProtectionGraph) (sight : Sight) (is : IsSightOf silent g sight) (edges : List Edge) where
+  pub joined_seen : All (JoinsSeen sight.seen) edges → JoinReached g edges
+  joined_seen all k d inside =
+      let one = all k d inside in
+      record { from = (is.reached (get_or edges k d).from).0 one.from; to = (is.reached (get_or edges k d).to).0 one.to; differ = one.differ }
+
+  pub seen_joined : JoinReached g edges → All (JoinsSeen sight.seen) edges
+  seen_joined all k d inside =
+      let one = all k d inside in
+      record { from = (is.reached (get_or edges k d).from).1 one.from; to = (is.reached (get_or edges k d).to).1 one.to; differ = one.differ }

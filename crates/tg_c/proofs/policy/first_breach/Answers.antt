@@ -11,7 +11,7 @@ returns-clause-told c =
     let s = c.deref.result.now.store in
     let same : s ≡ state_in c.args.place.now = ap (λ o. o.store) (c.deref.ensures ∙ c.in-Some.ensures.taken.1) in
     let met : AreMet (asked_of_policy c.args.place.now c.args.is_open c.args.as_if.now c.args.questions.now) =
-        (c.in_ok-check_questions.ensures, (c.in_ok-check_rights.ensures, (c.if-is_open.false, (c.in-Some.ensures.taken.0, tt)))) in
+    (c.in_ok-check_questions.ensures, (c.in_ok-check_rights.ensures, (c.if-is_open.false, (c.in-Some.ensures.taken.0, tt)))) in
     IfOk-weaker c.first_breach-told.result (IsPolicyOn (graph_of_store s) c.args.silent.now c.args.as_if.now c.args.questions.now)
     (IsPolicyAnswered c.args.place.now c.args.is_open c.args.silent.now c.args.as_if.now c.args.questions.now)
     (λ told on. record {

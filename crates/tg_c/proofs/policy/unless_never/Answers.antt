@@ -19,7 +19,7 @@ pub returns-then-is_never-clause-never : goal.returns-then-is_never-clause-never
 returns-then-is_never-clause-never c g sound picture joined sight right is =
     let h = with_edges g c.args.as_if.now in
     let told = never_told c.args.scene.now.silent.now h c.args.asked.x c.in-Some.right c.args.asked.y c.in_ok-told.told (sym c.is_never.ensures ∙ c.if-is_never.true)
-        (c.in_ok-told.ensures g sound picture joined) in
+    (c.in_ok-told.ensures g sound picture joined) in
     (told.0, subst (λ r. NeverHolds c.args.scene.now.silent.now h c.args.asked.x r c.args.asked.y) (same_right c.args.asked.right c.in-Some.right right (sym c.in-Some.ensures) is) told.1)
 
 pub returns-clause-told : goal.returns-clause-told
