@@ -805,6 +805,18 @@ tg_status tg_view_could(tg_view *view, uint64_t x, uint64_t right, uint64_t y, u
 tg_status tg_view_could_as_if(tg_view *view, const tg_edge *as_if, size_t as_if_count, uint64_t x, uint64_t right, uint64_t y,
                               uint64_t *kind);
 
+/* Has the view go on with an edge that came since its opening, such as the edge of a grant. The edge leads from the vertex that was
+   given the rights to their target. *is_followed gets 1 if the view goes on. Then it answers about the graph with the edge too. It
+   gets 0 if the edge joins two parts of the view, which stays as it was. Then open another view.
+
+   The view answers about the graph of its opening, with the edges that it followed. If other commands changed the graph since, open
+   another view. Each edge that it followed costs later questions a step.
+
+   It is refused in this order. TG_BAD_RIGHTS comes if the edge's rights are none, and TG_NOT_OPEN if the view is closed. TG_BAD_EDGE
+   comes if the edge joins a vertex to itself, or has an end that no worker reached at the opening. Otherwise it returns TG_DONE or
+   TG_OUT_OF_MEMORY. After a refusal the view and *is_followed are as they were. */
+tg_status tg_view_follow(tg_view *view, const tg_edge *edge, uint64_t *is_followed);
+
 /* Gives back all memory of the view. *view is closed then, and may be opened again. */
 tg_status tg_view_close(tg_view *view);
 

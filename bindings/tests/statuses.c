@@ -1370,6 +1370,12 @@ static int sees_as_if(tg_view *view, tg_edge edge, uint64_t x, uint64_t right, u
     return tg_view_could_as_if(view, &edge, 1, x, right, y, &told) == status && told == kind;
 }
 
+/* Whether the view follows an edge or not, or is refused by this status. */
+static int follows(tg_view *view, tg_edge edge, tg_status status, uint64_t wanted) {
+    uint64_t followed = UNTOUCHED;
+    return tg_view_follow(view, &edge, &followed) == status && followed == wanted;
+}
+
 /* Whether a question about these rights is refused, and has no answer. */
 static int is_untold(tg_view *view, uint64_t rights) {
     uint64_t told = UNTOUCHED;
@@ -1383,6 +1389,7 @@ static void closed_views(void) {
     WANT(tg_view_could(&view, 0, TG_READ, 1, &number) == TG_NOT_OPEN && is_untouched());
     WANT(tg_view_could(&view, 0, TG_READ | TG_WRITE, 1, &number) == TG_BAD_RIGHTS && is_untouched());
     WANT(tg_view_could_as_if(&view, NULL, 0, 0, TG_READ, 1, &number) == TG_NOT_OPEN && is_untouched());
+    WANT(follows(&view, (tg_edge){ 0, 1, TG_READ }, TG_NOT_OPEN, UNTOUCHED) && follows(&view, (tg_edge){ 0, 1, 0 }, TG_BAD_RIGHTS, UNTOUCHED));
     WANT(sees_as_if(&view, (tg_edge){ 0, 1, 0 }, 0, TG_READ, 1, TG_BAD_RIGHTS, UNTOUCHED));
     WANT(sees_as_if(&view, (tg_edge){ 0, 1, TG_READ }, 0, 0, 1, TG_BAD_RIGHTS, UNTOUCHED));
     WANT(tg_view_close(&view) == TG_NOT_OPEN && !view.is_open && view.handle.at == NULL);
@@ -1429,6 +1436,23 @@ static void views(void) {
     WANT(sees(&other, 0, document, TG_UNREACHED) && sees(&other, document + 1, 0, TG_NEVER));
     WANT(tg_close(&store) == TG_DONE && sees(&view, 1, document, TG_NEVER));
     WANT(tg_view_close(&view) == TG_DONE && tg_view_close(&other) == TG_DONE && tg_view_close(&view) == TG_NOT_OPEN);
+}
+
+/* A view goes on with the edge of a grant that joins none of its parts, and stays as it was otherwise. */
+static void followed_views(void) {
+    tg_store store = TG_STORE_INIT;
+    tg_view view = TG_VIEW_INIT;
+    uint64_t document, kind = UNTOUCHED;
+    WANT(tg_open(&store, workers, 2, (tg_edge[1]){ { 0, 1, TG_GRANT } }, 1, &limits) == TG_DONE);
+    WANT(tg_create(&store, 0, TG_READ | TG_WRITE, &cell, &document) == TG_DONE);
+    WANT(tg_view_open(&store, host, 1, NULL, 0, &view) == TG_DONE && sees(&view, 1, document, TG_NEVER));
+    WANT(follows(&view, (tg_edge){ 1, 1, TG_READ }, TG_BAD_EDGE, UNTOUCHED) && follows(&view, (tg_edge){ 1, 9, TG_READ }, TG_BAD_EDGE, UNTOUCHED));
+    WANT(follows(&view, (tg_edge){ 1, document, 256 }, TG_BAD_RIGHTS, UNTOUCHED) && sees(&view, 1, document, TG_NEVER));
+    WANT(tg_grant(&store, 0, 1, document, TG_READ, NULL) == TG_DONE);
+    WANT(follows(&view, (tg_edge){ 1, document, TG_READ }, TG_DONE, 1) && sees(&view, 1, document, TG_NEVER));
+    WANT(tg_view_could(&view, 1, TG_READ, document, &kind) == TG_DONE && kind == TG_PERHAPS);
+    WANT(follows(&view, (tg_edge){ 1, 0, TG_TAKE }, TG_DONE, 0) && sees(&view, 1, document, TG_NEVER));
+    WANT(tg_close(&store) == TG_DONE && tg_view_close(&view) == TG_DONE);
 }
 
 /* No name is left: the turns make vertices, of which an entry's numbers are read. */
@@ -2061,6 +2085,7 @@ int main(void) {
     policies();
     far_names();
     views();
+    followed_views();
     names_wanting();
     a_worker_leaves();
     rights_are_handed_on();

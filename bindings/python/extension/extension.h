@@ -25,7 +25,8 @@
     DO(auditor_feed) DO(auditor_at) DO(auditor_forget) \
     DO(auditor_sweep) DO(auditor_close) DO(auditor_snapshot) DO(auditor_reopen) DO(snapshot_text) DO(snapshot_read) \
     DO(snapshot_close) DO(could) DO(could_kind) DO(could_any) DO(answer_kind) DO(answer_names) DO(answer_turns) DO(answer_turn) \
-    DO(answer_close) DO(view_open) DO(view_could) DO(view_could_as_if) DO(view_close)
+    DO(answer_close) DO(view_open) DO(view_could) DO(view_could_as_if) \
+    DO(view_follow) DO(view_close)
 
 /* The addresses of these functions. */
 struct library {

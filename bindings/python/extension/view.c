@@ -59,8 +59,18 @@ static PyObject *view_could_as_if(PyObject *it, PyObject *const *words, Py_ssize
     return status == TG_DONE ? PyLong_FromUnsignedLongLong(kind) : refused(self->state, status, NULL, &asked[1]);
 }
 
+static PyObject *view_follow(PyObject *it, PyObject *const *words, Py_ssize_t count) {
+    struct view *self = (struct view *)it;
+    uint64_t asked[MOST_ASKED], followed = 0;
+    if (!numbers_of(self->state, words, count, asked, 3) || !wait_for_others(self->state))
+        return NULL;
+    const tg_edge edge = { asked[0], asked[1], asked[2] };
+    tg_status status = self->state->library.view_follow(&self->place, &edge, &followed);
+    return counted(self->state, status, followed, NULL);
+}
+
 static PyMethodDef view_methods[] = {
-    WITH_WORDS(view, open) WITH_WORDS(view, could) WITH_WORDS(view, could_as_if)
+    WITH_WORDS(view, open) WITH_WORDS(view, could) WITH_WORDS(view, could_as_if) WITH_WORDS(view, follow)
     ALONE(view, close) ALONE(view, is_open)
     { NULL, NULL, 0, NULL },
 };

@@ -26,7 +26,7 @@ CALLS = (
     "abi open close take grant remove hand write append create spawn retire leave withdraw park unpark who_holds edges_to subjects read list inspect label law law_of collect census "
     "names entries "
     "first entry forget resume reopen apply_all audit auditor_open auditor_feed auditor_at auditor_forget auditor_sweep auditor_close "
-    "auditor_snapshot auditor_reopen snapshot_text snapshot_read snapshot_close could could_kind could_any answer_kind answer_names answer_turns answer_turn answer_close view_open view_could view_could_as_if view_close"
+    "auditor_snapshot auditor_reopen snapshot_text snapshot_read snapshot_close could could_kind could_any answer_kind answer_names answer_turns answer_turn answer_close view_open view_could view_could_as_if view_follow view_close"
 ).split()
 
 DENIED = 1
@@ -779,3 +779,7 @@ class View(_Place):
         asked = [_number(it) for it in (x, right, y)]
         supposed = as_if, c_size_t(len(as_if) // EDGE_SIZE)
         return self._count(short.tg_view_could_as_if, *supposed, *asked, right=asked[1].value)
+
+    def follow(self, source: int, target: int, rights: int) -> int:
+        edge = (Number * 3)(*(it.value for it in _numbers(source, target, rights)))
+        return self._count(short.tg_view_follow, byref(edge))

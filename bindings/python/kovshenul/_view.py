@@ -45,3 +45,14 @@ class View(Held):
         It raises BadRights if it isn't one right. It raises BadEdge if an edge joins a vertex to itself, or has an end that no worker
         reached at the opening."""
         return OUTLOOKS[self._place.could_as_if(edges_in(as_if), x, right, y)]()
+
+    def follow(self, edge: Tuple[int, int, int]) -> bool:
+        """Has the view go on with an edge that came since its opening, such as the edge of a grant. The edge leads from the vertex that
+        was given the rights to their target. Returns whether the view goes on. Then it answers about the graph with the edge too. If
+        the edge joins two parts of the view, it stays as it was, and another view has to be opened.
+
+        The view answers about the graph of its opening, with the edges that it followed. If other commands changed the graph since,
+        open another view. It raises BadRights if the rights are none. It raises BadEdge if the edge joins a vertex to itself, or has an
+        end that no worker reached at the opening."""
+        source, target, rights = edge
+        return bool(self._place.follow(source, target, rights))

@@ -535,12 +535,21 @@ class View(_Held):
         edges = edges_in(as_if)
         x, right, y = numbers_in(x, right, y)
         must_be_one(right)
+        return _chance(self._with_edges(edges).answer(x, right, y))
+
+    def follow(self, edge: Pair) -> bool:
+        """Goes on with an edge that came since. This view always does, and the store's may not."""
+        self._foresight = self._with_edges(edges_in([edge]))
+        return True
+
+    def _with_edges(self, edges: List[Pair]) -> Foresight:
+        """The searcher of the graph with these edges too."""
         must_be_rights(*[rights for _, _, rights in edges])
         self._must_be_open()
         foresight = self._foresight
         if not all(source != target and {source, target} <= foresight.reached for source, target, _ in edges):
             raise BadEdge
-        return _chance(Foresight(foresight.graph.with_edges(edges), foresight.silent).answer(x, right, y))
+        return Foresight(foresight.graph.with_edges(edges), foresight.silent)
 
 
 def _chance(answer: Outlook) -> Chance:

@@ -157,6 +157,22 @@ class Could(unittest.TestCase):
             makings = [turn for turn in answer.turns if isinstance(turn.deed, journal.Create)]
             self.assertEqual(answer.names, len(makings))
 
+    def test_a_view_goes_on_after_a_grant(self):
+        with opened(2, [(0, 1, GRANT)]) as store:
+            document = store.create(0, READ | WRITE, Cell(7))
+            with store.view([0]) as view:
+                store.grant(0, 1, document, READ)
+                self.assertEqual(view.could(1, READ, document), outlook.Never())
+                self.assertIs(view.follow((1, document, READ)), True)
+                self.assertEqual((view.could(1, READ, document), view.could(1, WRITE, document)), (outlook.Perhaps(), outlook.Never()))
+                self.assertIs(view.follow((1, 0, TAKE)), False)
+                self.assertEqual(view.could(1, WRITE, document), outlook.Never())
+                for edge, refusal in {(1, 1, READ): BadEdge, (1, 99, READ): BadEdge, (1, 0, 0): BadRights}.items():
+                    self.assertRaises(refusal, view.follow, edge)
+                self.assertRaises(TypeError, view.follow, (1, 0, "r"))
+                self.assertRaises(ValueError, view.follow, (1, 0))
+            self.assertRaises(NotOpen, view.follow, (1, document, READ))
+
     def test_a_view_is_of_its_moment(self):
         with opened() as store:
             document = store.create(0, READ | WRITE, Cell(7))

@@ -248,6 +248,7 @@ class Run:
             for y in ends:
                 self.must_equal(*(view.could(x, READ, y) for view in views), "a view's could", (x, READ, y), scene)
                 self.ask_as_if(views, x, y, scene)
+        self.follow(views, ends, scene)
 
 
     def ask_as_if(self, views, x, y, scene):
@@ -256,6 +257,19 @@ class Run:
         told, wanted = (outcome(view.could_as_if, x, READ, y, [edge]) for view in views)
         if told != outlook.Perhaps() or wanted != outlook.Never():
             self.must_equal(told, wanted, "a view's could as if", (x, READ, y, edge), scene)
+
+
+    def follow(self, views, ends, scene):
+        """The store's view may not go on with an edge. If it does, it says nothing else than the model's, but that it doesn't know."""
+        edge = self.draw.name(self.model._graph), self.draw.name(self.model._graph), self.draw.rights()
+        told, wanted = (outcome(view.follow, edge) for view in views)
+        if told is False and wanted is True:
+            return
+        self.must_equal(told, wanted, "a view's follow", edge, scene)
+        for x, y in itertools.product(ends, ends):
+            told, wanted = (view.could(x, READ, y) for view in views)
+            if told != outlook.Perhaps() or wanted != outlook.Never():
+                self.must_equal(told, wanted, "a view that followed", (x, READ, y, edge), scene)
 
 
 def kind_of(answer):

@@ -413,6 +413,7 @@ extern "C" {
         y: u64,
         kind: &mut u64,
     ) -> u32;
+    pub fn tg_view_follow(view: *mut RawView, edge: &RawEdge, is_followed: &mut u64) -> u32;
     pub fn tg_view_close(view: *mut RawView) -> u32;
     pub fn tg_auditor_open(
         auditor: *mut RawAuditor,

@@ -117,6 +117,32 @@ impl View {
         })?;
         Ok(Chance::told(kind))
     }
+
+    /// Has the view go on with an edge that came since its opening, such as the edge of a grant. The edge leads from the vertex
+    /// that was given the rights to their target. Returns whether the view goes on. Then it answers about the graph with the edge
+    /// too. If the edge joins two parts of the view, it stays as it was, and another view has to be opened.
+    ///
+    /// The view answers about the graph of its opening, with the edges that it followed. If other commands changed the graph since,
+    /// open another view. It is `BadRights` if the edge's rights are none. It is `BadEdge` if the edge joins a vertex to itself, or
+    /// has an end that no worker reached at the opening.
+    ///
+    /// ```
+    /// # use kovshenul::{Chance, Edge, Error, Limits, Rights, Store, Value};
+    /// # let mut store = Store::open(&[Value::Cell(0)], &[], &Limits::default())?;
+    /// let document = store.create(0, Rights::READ | Rights::WRITE, Value::Cell(7))?;
+    /// let plugin = store.spawn(0, Rights::GRANT, Value::Cell(0))?;
+    /// let mut view = store.view(&[0], &[])?;
+    /// store.grant(0, plugin, document, Rights::READ)?;
+    /// assert!(view.follow(&Edge { from: plugin, to: document, rights: Rights::READ })?);
+    /// assert_eq!(view.could(plugin, Rights::READ, document)?, Chance::Perhaps);
+    /// assert_eq!(view.could(plugin, Rights::WRITE, document)?, Chance::Never);
+    /// # Ok::<(), Error>(())
+    /// ```
+    pub fn follow(&mut self, edge: &Edge) -> Result<bool, Error> {
+        let mut followed = 0;
+        served(unsafe { raw::tg_view_follow(self.place.get(), &RawEdge::from(edge), &mut followed) })?;
+        Ok(followed != 0)
+    }
 }
 
 impl Chance {

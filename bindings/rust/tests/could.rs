@@ -133,6 +133,22 @@ fn a_view_tells_of_all() {
 }
 
 #[test]
+fn a_view_goes_on_after_a_grant() {
+    let mut store = opened(2, &[edge(0, 1, Rights::GRANT)], 100);
+    let document = store.create(0, Rights::READ | Rights::WRITE, Value::Cell(0)).unwrap();
+    let mut view = store.view(&[0], &[]).unwrap();
+    store.grant(0, 1, document, Rights::READ).unwrap();
+    assert_eq!(view.could_as_if(1, Rights::READ, document, &[edge(1, document, Rights::READ)]), Ok(Chance::Perhaps));
+    assert_eq!(view.could(1, Rights::READ, document), Ok(Chance::Never));
+    assert_eq!(view.follow(&edge(1, document, Rights::READ)), Ok(true));
+    assert_eq!(view.could(1, Rights::READ, document), Ok(Chance::Perhaps));
+    assert_eq!(view.follow(&edge(1, 0, Rights::TAKE)), Ok(false));
+    assert_eq!(view.could(1, Rights::WRITE, document), Ok(Chance::Never));
+    assert_eq!(view.follow(&edge(1, 1, Rights::READ)), Err(Error::BadEdge));
+    assert_eq!(view.follow(&edge(1, 0, Rights::NONE)), Err(Error::BadRights));
+}
+
+#[test]
 fn what_a_view_refuses() {
     let store = opened(2, &[], 100);
     assert_eq!(store.view(&[], &[edge(0, 1, Rights::NONE)]).unwrap_err(), Error::BadRights);

@@ -1,5 +1,5 @@
 -- The calls of C on a view. It is opened on the vertices that the workers of a store reach, and answers each question as of then.
-use Rattle.std.specs.Prelude.{◌≡◌, ◌≢◌, ◌↔◌, ◌⊎◌, ℕ, ◌<◌, ◌≤◌, nat_eq, Bool, true, false, List, [], ◌∷◌, Option, Some, None, IfSome, Result, Ok, Err, IfOk, IfErr, map}
+use Rattle.std.specs.Prelude.{◌≡◌, ◌≢◌, ◌↔◌, ◌⊎◌, ℕ, ◌<◌, ◌≤◌, nat_eq, Bool, true, false, List, [], ◌∷◌, Option, Some, None, IfSome, Result, Ok, Err, IfOk, IfErr, if◌then◌else◌, map}
 use Rattle.std.specs.Option.{IsSome}
 use Rattle.std.specs.List.{All, Contains, list_any}
 use Rattle.indexmap.specs.IndexSet.{contains}
@@ -9,7 +9,7 @@ use Rattle.tg_model.specs.declared.edge.Edge.{Edge}
 use Rattle.tg_model.specs.Graph.{ProtectionGraph, IsReachable, IsSound}
 use Rattle.tg_model.specs.Picture.{Shown, IsPictureOf}
 use Rattle.tg_could.specs.Turns.{NeverHolds}
-use Rattle.tg_could.specs.Reached.{HoldsWhatItHolds, IsLedTo, JoinReached, with_edges}
+use Rattle.tg_could.specs.Reached.{HoldsWhatItHolds, IsLedTo, JoinReached, JoinsReached, with_edges}
 use Rattle.tg_could.specs.View.{IsViewOf}
 use Rattle.tg_store.specs.Store.{StandsFor}
 use Rattle.tg_c.specs.declared.forms.EdgeIn.{EdgeIn}
@@ -23,7 +23,7 @@ use Rattle.tg_c.specs.declared.view.sight.ReachedView.{ReachedView}
 use Rattle.tg_c.specs.declared.view.sight.Sight.{Sight}
 use Rattle.tg_c.specs.Calls.{AreMet, Demand, IsFirstUnmet, IsMemoryOr, IsStatusWhere, demand, state_in}
 use Rattle.tg_c.specs.Could.{AreActive, IsRefusedOn, asked_of_places}
-use Rattle.tg_c.specs.Forms.{HaveLabels, edge_in}
+use Rattle.tg_c.specs.Forms.{HaveLabels, edge_in, label_at}
 
 -- ---- the vertices that a view shows
 
@@ -163,4 +163,39 @@ pub record GlancesAsIf (old new : ViewPlace) (as_if : List EdgeIn) (x bits y : �
   pub same : old.is_open ≡ true → new.handle.opened ≡ old.handle.opened
   pub told : status ≡ 0 → (glimpse : Glimpse) × IsSeenAsIf old as_if x bits y glimpse × (after ≡ kind_seen glimpse)
   pub refused : status ≢ 0 → IsStatusWhere (IsRefusedAsIf old as_if bits) status
+  pub kept : status ≢ 0 → after ≡ before
+
+-- ---- an edge that a view follows
+
+-- On each graph of which the view was one, the edge joins two different vertices that are reached. The view is then one of the graph
+-- with the edge, if it was followed, and still one of the same graph otherwise.
+abbrev pub IsFollowed : Sight → Edge → Sight → Bool → Type 0
+IsFollowed old edge new true = (silent : List ℕ) (g : ProtectionGraph) → IsSightOf silent g old → JoinsReached g edge × IsSightOf silent (with_edges g (edge ∷ [])) new
+IsFollowed old edge new false = (silent : List ℕ) (g : ProtectionGraph) → IsSightOf silent g old → JoinsReached g edge × IsSightOf silent g new
+
+-- Why it wasn't followed: memory ran out, or it doesn't join two different vertices that are reached. The view is one of the same graph.
+abbrev pub IsNotFollowed : Sight → Edge → Sight → CallRefusal → Type 0
+IsNotFollowed old edge new why = (silent : List ℕ) (g : ProtectionGraph) → IsSightOf silent g old → IsMemoryOr refusal.BadEdge (¬ JoinsReached g edge) why × IsSightOf silent g new
+
+-- the demands on an edge that a view is to follow, in the order in which they are checked
+abbrev pub asked_to_follow : ViewPlace → EdgeIn → List Demand
+asked_to_follow place edge = demand (IsSome (label_at edge.rights)) refusal.BadRights ∷ demand (place.is_open ≡ true) refusal.NotOpen ∷ []
+
+-- the view in its place follows the edge or not
+pub record IsFollowedIn (old : ViewPlace) (edge : EdgeIn) (new : ViewPlace) (followed : Bool) : Type 0 where
+  pub met : AreMet (asked_to_follow old edge)
+  pub view : IsFollowed old.handle.opened (edge_in edge) new.handle.opened followed
+
+-- Why it isn't. Either a demand isn't met, the first one is the reason, and the view is as it was. Or all are met, and the reason is the
+-- edge or lack of memory.
+abbrev pub IsNotFollowedIn : ViewPlace → EdgeIn → ViewPlace → CallRefusal → Type 0
+IsNotFollowedIn old edge new why =
+    (IsFirstUnmet (asked_to_follow old edge) why × (old.is_open ≡ true → new.handle.opened ≡ old.handle.opened))
+    ⊎ (AreMet (asked_to_follow old edge) × IsNotFollowed old.handle.opened (edge_in edge) new.handle.opened why)
+
+-- A view that is to follow an edge.
+pub record Follows (old new : ViewPlace) (edge : EdgeIn) (before after : ℕ) (status : ℕ) : Type 0 where
+  pub stays : new.is_open ≡ old.is_open
+  pub told : status ≡ 0 → (followed : Bool) × IsFollowedIn old edge new followed × (after ≡ (if followed then 1 else 0))
+  pub refused : status ≢ 0 → IsStatusWhere (IsNotFollowedIn old edge new) status
   pub kept : status ≢ 0 → after ≡ before

@@ -1,7 +1,7 @@
 //! The functions that C calls on a view.
 ghost use Rattle.std.specs.Prelude.{◌≡◌, false, true};
 ghost use Rattle.tg_c.specs.Statuses.{TellsNumber, status_of};
-ghost use Rattle.tg_c.specs.View.{Glances, GlancesAsIf, OpensView};
+ghost use Rattle.tg_c.specs.View.{Follows, Glances, GlancesAsIf, OpensView};
 
 use std::alloc::Global;
 use tg_c::forms::{EdgeIn, QuestionIn};
@@ -68,6 +68,26 @@ pub extern "C" fn tg_view_could_as_if(
     match calls::ask_view_as_if(alloc, view, as_if, asked) {
         Ok(glimpse) => {
             *kind = glimpse.kind();
+            DONE
+        }
+        Err(refusal) => refusal.status(),
+    }
+}
+
+/// Has a view go on with an edge that came since its opening, such as the edge of a grant. `is_followed` gets 1 if it
+/// does. It gets 0 if the edge joins two parts of the view, which stays as it was.
+#[unsafe(no_mangle)]
+pub extern "C" fn tg_view_follow(
+    alloc: Global,
+    view: &mut ViewPlace,
+    edge: &EdgeIn,
+    is_followed: &mut u64,
+) -> u32
+    ensures { Follows view.old view.new edge.now is_followed.old is_followed.new result }
+{
+    match calls::follow(alloc, view, edge) {
+        Ok(followed) => {
+            *is_followed = if followed { 1 } else { 0 };
             DONE
         }
         Err(refusal) => refusal.status(),

@@ -2,9 +2,9 @@
 ghost use Rattle.std.specs.Prelude.{◌≡◌, IfOk, IfErr, map};
 ghost use Rattle.tg_c.specs.Inner.Stores.{KeepsStore};
 ghost use Rattle.tg_c.specs.Forms.{HaveLabels, edge_in};
-ghost use Rattle.tg_c.specs.View.{Glances, IsGlimpseAsIf, IsNoGlimpse, IsRefusedAsIf, IsRefusedView, IsSeen, IsSeenAsIf, KeepsView};
+ghost use Rattle.tg_c.specs.View.{Glances, IsFollowedIn, IsGlimpseAsIf, IsNoGlimpse, IsNotFollowedIn, IsRefusedAsIf, IsRefusedView, IsSeen, IsSeenAsIf, KeepsView};
 
-use crate::forms::{EdgeIn, QuestionIn};
+use crate::forms::{EdgeIn, QuestionIn, label_of};
 use crate::held::Holder;
 use crate::law_store::LawStore;
 use crate::opening::{check_rights, edges_in};
@@ -14,6 +14,7 @@ use crate::view::place::ViewPlace;
 use crate::view::sight::{Glimpse, Sight};
 use std::alloc::Global;
 use tg_could::Question;
+use tg_model::Edge;
 use tg_rights::Right;
 
 /// Opens a view, which no place has yet, of the store in a place. The silent workers take no turns, and the edges of
@@ -99,6 +100,29 @@ pub fn ask_view_as_if(
     let told = glimpse_as_if(alloc, &sight, as_if, question);
     view.put(sight);
     told
+}
+
+/// Has the view follow an edge that came since its opening ([`Sight::follow`]). The checks have this order:
+///
+/// 1. the rights of the edge,
+/// 2. whether the view's place is open,
+/// 3. with memory, whether the edge joins two different vertices that workers reached at the opening.
+pub fn follow(alloc: Global, view: &mut ViewPlace, edge: &EdgeIn) -> Result<bool, CallRefusal>
+    ensures stays { view.new.is_open ≡ view.old.is_open }
+    ensures told { IfOk result (IsFollowedIn view.old edge.now view.new) }
+    ensures refused { IfErr result (IsNotFollowedIn view.old edge.now view.new) }
+{
+    let label = label_of(edge.rights)?;
+    let Some(mut sight) = view.take(alloc) else {
+        return Err(CallRefusal::NotOpen);
+    };
+    let followed = sight.follow(Edge {
+        from: edge.from,
+        to: edge.to,
+        label,
+    });
+    view.put(sight);
+    followed
 }
 
 // The answer of a view with supposed edges, after their rights were checked.
