@@ -659,7 +659,7 @@ static void unpark_some(struct run *run) {
     want(run, (status == TG_DONE) == (edges != UNTOUCHED), "a count of what isn't unparked");
     if (status == TG_DONE) {
         put_parking(run, entries, edges + 3);
-        want(run, tg_label(store, it.host, it.account, &rights) == TG_DONE && rights == 0, "an account that isn't left");
+        want(run, tg_label(store_of(run), it.host, it.account, &rights) == TG_DONE && rights == 0, "an account that isn't left");
     } else if (status != TG_IN_USE && status != TG_NO_SUCH_WORKER)
         is_done(run, status, before);
     else
