@@ -781,5 +781,5 @@ class View(_Place):
         return self._count(short.tg_view_could_as_if, *supposed, *asked, right=asked[1].value)
 
     def follow(self, source: int, target: int, rights: int) -> int:
-        edge = (Number * 3)(*(it.value for it in _numbers(source, target, rights)))
+        edge = (Number * 3)(*_numbers(source, target, rights))
         return self._count(short.tg_view_follow, byref(edge))

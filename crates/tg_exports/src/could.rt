@@ -61,8 +61,8 @@ pub extern "C" fn tg_could_kind(
 }
 
 /// Asks many questions at once, each of which is to be answered never. The place of the first one that isn't goes to
-/// `at`, and its answer to a place that is closed. If each is answered never, `at` gets the number of questions, and the
-/// answer's place is as it was. The store is as it was, and its journal gets no entry.
+/// `at`, and its answer to a place that is closed. If each is answered never, `at` gets the number of questions, and
+/// the answer's place is as it was. The store is as it was, and its journal gets no entry.
 #[unsafe(no_mangle)]
 pub extern "C" fn tg_could_any(
     alloc: Global,

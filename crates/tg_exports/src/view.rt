@@ -50,8 +50,8 @@ pub extern "C" fn tg_view_could(
     tell_number(calls::ask_view(alloc, view, x, right, y), kind)
 }
 
-/// Answers as [`tg_view_could`] does, as if the edges of `as_if` were there too. Each edge has to join two vertices that
-/// workers reached at the opening. The answer isn't known if an edge joins two parts of the view.
+/// Answers as [`tg_view_could`] does, as if the edges of `as_if` were there too. Each edge has to join two vertices
+/// that workers reached at the opening. The answer isn't known if an edge joins two parts of the view.
 #[unsafe(no_mangle)]
 pub extern "C" fn tg_view_could_as_if(
     alloc: Global,

@@ -133,9 +133,9 @@ impl Sight {
         }
     }
 
-    /// Adds an edge that came since to the view, such as the edge of a grant. Returns whether it was added. It isn't if it
-    /// joins two parts of the view, and then the view stays as it was. `BadEdge` is returned if the edge doesn't join two
-    /// different vertices that active subjects reach. Takes memory for one edge.
+    /// Adds an edge that came since to the view, such as the edge of a grant. Returns whether it was added. It isn't if
+    /// it joins two parts of the view, and then the view stays as it was. `BadEdge` is returned if the edge doesn't
+    /// join two different vertices that active subjects reach. Takes memory for one edge.
     pub fn follow(&mut self, edge: Edge) -> Result<bool, CallRefusal>
         ensures told { IfOk result (IsFollowed self.old edge self.new) }
         ensures refused { IfErr result (IsNotFollowed self.old edge self.new) }
