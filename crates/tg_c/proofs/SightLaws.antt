@@ -1,5 +1,5 @@
 -- Names of whom a picture shows, and what a view shows by them.
-use Rattle.std.proofs.Common.{◌≡◌, ◌↔◌, ◌⊎◌, inl, inr, ⊎_elim, ℕ, ◌+◌, ◌<◌, ◌≤◌, ◌==◌, ◌&&◌, nat_eq, Bool, true, false, cond, List, [], ◌∷◌, ◌++◌, Option, Some, None, IfSome, get_or, length, refl, take, sym, ap, ◌∙◌, subst, arith, eq-eqb}
+use Rattle.std.proofs.Common.{◌≡◌, ◌↔◌, ◌⊎◌, inl, inr, ⊎_elim, ℕ, ◌+◌, ◌<◌, ◌≤◌, ◌==◌, ◌&&◌, nat_eq, Bool, true, false, cond, List, [], ◌∷◌, ◌++◌, Option, Some, None, IfSome, Ok, get_or, length, refl, take, sym, ap, ◌∙◌, subst, arith, eq-eqb}
 use Rattle.std.specs.List.{All, Contains, list_any}
 use Rattle.std.proofs.lemmas.Bool.{and_parts, cases_Bool, cases_eq, cases_lt, eqb-true, ne_eqb, false≢true}
 use Rattle.std.proofs.lemmas.List.{take_all, take_more}
@@ -16,9 +16,9 @@ use Rattle.tg_rights.specs.RightSet.{RightSet, has, is_none_held, union}
 use Rattle.tg_rights.proofs.RightLaws.{has-union, some_union, union_assoc}
 use Rattle.tg_could.specs.Reached.{IsLedTo, IsReachedPicture, JoinReached, JoinsMade, JoinsReached, with_edges}
 use Rattle.tg_could.specs.Turns.{NeverHolds}
-use Rattle.tg_could.specs.View.{IsViewAfter, IsViewOf, IsViewStill, shown_with}
+use Rattle.tg_could.specs.View.{FollowsEdge, IsViewAfter, IsViewOf, IsViewStill, shown_with}
 use Rattle.tg_could.proofs.ReachedLaws.{Agree, Known, never_on, reached_shown, relabelled, shown_reached}
-use Rattle.tg_c.specs.View.{AreShown, IsShownIn, IsSightOf, JoinsSeen, is_seen}
+use Rattle.tg_c.specs.View.{AreShown, IsFollowed, IsShownIn, IsSightOf, JoinsSeen, is_seen}
 use Rattle.tg_c.specs.declared.view.sight.ReachedView.{ReachedView}
 use Rattle.tg_c.specs.declared.view.sight.Sight.{Sight}
 use Rattle.tg_could.proofs.AsIfLaws.{agrees, held_edge, label_in-append, more, reached_before, reached_then, seen, seen_by, supposed_sound}
@@ -304,3 +304,15 @@ module _ (silent : List ℕ) (g : ProtectionGraph) (old : Sight) (is : IsSightOf
             λ reached. same_seen x ∙ (is.reached x).1 (reached_before g is.sound (e ∷ []) one x reached),
           );
         }
+
+pub one_joined : (silent : List ℕ) (g : ProtectionGraph) (sight : Sight) → IsSightOf silent g sight → (e : Edge) → JoinsSeen sight.seen e → JoinsReached g e
+one_joined silent g sight is e one = record { from = (is.reached e.from).0 one.from; to = (is.reached e.to).0 one.to; differ = one.differ }
+
+-- the view went on with the edge, or not
+pub sight_follows : (old new : Sight) (s t : ReachedView) (e : Edge) (followed : Bool) → old.seen ≡ Some s → new.seen ≡ Some t → new.made ≡ old.made → t.reached ≡ s.reached
+    → JoinsSeen old.seen e → FollowsEdge s.view e (Ok followed) t.view → IsFollowed old e new followed
+sight_follows old new s t e true was now made keys one follows silent g is =
+    let joins = one_joined silent g old is e one in
+    (joins, sight_after silent g old is new s t was now made keys e joins follows.1)
+sight_follows old new s t e false was now made keys one follows silent g is =
+    (one_joined silent g old is e one, sight_still silent g old is new s t was now made keys follows)

@@ -66,8 +66,7 @@ pub fn ask_view(
     view.with_open(alloc, |sight| sight.could(x, right, y).kind())
 }
 
-/// The view's answer to the question whether x could ever come to hold the right of a bit over y, as if the edges of
-/// `as_if` were there too. The checks have this order:
+/// The view's answer to a question, as if the edges of `as_if` were there too. The checks have this order:
 ///
 /// 1. the right,
 /// 2. the rights of the edges,

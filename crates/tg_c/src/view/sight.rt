@@ -143,10 +143,12 @@ impl Sight {
         if !self.joins_seen(&edge) {
             return Err(CallRefusal::BadEdge);
         }
-        let Some(seen) = &mut self.seen else {
+        let Some(mut seen) = self.seen.take() else {
             return Ok(false);
         };
-        match seen.view.follow(edge) {
+        let followed = seen.view.follow(edge);
+        self.seen = Some(seen);
+        match followed {
             Ok(is_followed) => Ok(is_followed),
             Err(error) => Err(error.into()),
         }
