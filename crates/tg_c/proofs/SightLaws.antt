@@ -306,13 +306,13 @@ module _ (silent : List ℕ) (g : ProtectionGraph) (old : Sight) (is : IsSightOf
         }
 
 pub one_joined : (silent : List ℕ) (g : ProtectionGraph) (sight : Sight) → IsSightOf silent g sight → (e : Edge) → JoinsSeen sight.seen e → JoinsReached g e
-one_joined silent g sight is e one = record { from = (is.reached e.from).0 one.from; to = (is.reached e.to).0 one.to; differ = one.differ }
+one_joined silent g sight is e both = record { from = (is.reached e.from).0 both.from; to = (is.reached e.to).0 both.to; differ = both.differ }
 
 -- the view went on with the edge, or not
 pub sight_follows : (old new : Sight) (s t : ReachedView) (e : Edge) (followed : Bool) → old.seen ≡ Some s → new.seen ≡ Some t → new.made ≡ old.made → t.reached ≡ s.reached
     → JoinsSeen old.seen e → FollowsEdge s.view e (Ok followed) t.view → IsFollowed old e new followed
-sight_follows old new s t e true was now made keys one follows silent g is =
-    let joins = one_joined silent g old is e one in
+sight_follows old new s t e true was now made keys both follows = λ silent g is.
+    let joins = one_joined silent g old is e both in
     (joins, sight_after silent g old is new s t was now made keys e joins follows.1)
-sight_follows old new s t e false was now made keys one follows silent g is =
-    (one_joined silent g old is e one, sight_still silent g old is new s t was now made keys follows)
+sight_follows old new s t e false was now made keys both follows = λ silent g is.
+    (one_joined silent g old is e both, sight_still silent g old is new s t was now made keys follows)
