@@ -37,7 +37,22 @@ COMMANDS = (
 )
 
 # The questions, whose answers show what commands did.
-QUESTIONS = ("census", "could", "could_any", "could_kind", "edges_to", "entries", "entry", "label", "law", "law_of", "names", "subjects", "view", "who_holds")
+QUESTIONS = (
+    "census",
+    "could",
+    "could_any",
+    "could_kind",
+    "edges_to",
+    "entries",
+    "entry",
+    "label",
+    "law",
+    "law_of",
+    "names",
+    "subjects",
+    "view",
+    "who_holds",
+)
 
 
 class Guard:
