@@ -2,13 +2,12 @@
 
 The users are in 20 departments. A user reads its own mailbox, writes to the mailbox of a colleague, and adds to the ledger of its
 department. The policy is that no user ever reads the ledger of another department. It is asked for all 1,000 users."""
-from kovshenul import APPEND, FULL, GRANT, INSPECT, READ, TAKE, WRITE, Auditor, Cell, Log, Store, Sum, journal, outlook
+from kovshenul import APPEND, FULL, GRANT, INSPECT, READ, TAKE, WRITE, Auditor, Cell, Log, Store, Sum
 
 # The host, and two workers that never ask for anything. In a question they act for the users who are away.
 HOST, INSIDERS, OUTSIDERS = range(3)
 USERS, DEPARTMENTS, AT_ONCE, VISITS = 1000, 20, 60, 2
 OVER_ACCOUNT = TAKE | GRANT | INSPECT
-MOST_COMMANDS = 1024
 
 
 def log_out(store, user):
@@ -20,14 +19,9 @@ def log_out(store, user):
 
 
 def log_in(store, account):
-    """A subject that holds exactly what the account holds. The account is given up."""
+    """Unparks a user. Returns a subject that holds exactly what the account holds. The account is given up."""
     user = store.spawn(HOST, TAKE | GRANT, Cell(0))
-    store.grant(HOST, user, account, TAKE)
-    takes = [journal.Take(account, target.to, target.rights) for target in store.inspect(HOST, account)]
-    for at in range(0, len(takes), MOST_COMMANDS):
-        store.apply_all(user, takes[at : at + MOST_COMMANDS])
-    store.remove(user, account, TAKE)
-    store.remove(HOST, account, OVER_ACCOUNT)
+    store.unpark(HOST, user, account)
     return user
 
 
@@ -79,9 +73,9 @@ class Office:
         for department, ledger in enumerate(self.ledgers):
             acting = [(INSIDERS if user % DEPARTMENTS == department else OUTSIDERS, account, TAKE) for user, account in self.accounts.items()]
             others = [subject for user, subject in self.active.items() if user % DEPARTMENTS != department]
-            with self.store.view(silent=[HOST], as_if=[*acting, *granted]) as view:
-                if any(view.could(x, READ, ledger) != outlook.Never() for x in [OUTSIDERS, *others]):
-                    found.append(department)
+            policy = [(x, READ, ledger) for x in [OUTSIDERS, *others]]
+            if self.store.could_any(policy, silent=[HOST], as_if=[*acting, *granted]) is not None:
+                found.append(department)
         return found
 
 

@@ -47,8 +47,30 @@ static PyObject *view_could(PyObject *it, PyObject *const *words, Py_ssize_t cou
     return status == TG_DONE ? PyLong_FromUnsignedLongLong(kind) : refused(self->state, status, NULL, &asked[1]);
 }
 
+static PyObject *view_could_as_if(PyObject *it, PyObject *const *words, Py_ssize_t count) {
+    struct view *self = (struct view *)it;
+    const void *as_if;
+    size_t as_if_count;
+    uint64_t asked[MOST_ASKED], kind = 0;
+    if (!has_words(count, 4) || !items_of(words[0], sizeof(tg_edge), &as_if, &as_if_count) ||
+        !numbers_of(self->state, words + 1, 3, asked, 3) || !wait_for_others(self->state))
+        return NULL;
+    tg_status status = self->state->library.view_could_as_if(&self->place, as_if, as_if_count, asked[0], asked[1], asked[2], &kind);
+    return status == TG_DONE ? PyLong_FromUnsignedLongLong(kind) : refused(self->state, status, NULL, &asked[1]);
+}
+
+static PyObject *view_follow(PyObject *it, PyObject *const *words, Py_ssize_t count) {
+    struct view *self = (struct view *)it;
+    uint64_t asked[MOST_ASKED], followed = 0;
+    if (!numbers_of(self->state, words, count, asked, 3) || !wait_for_others(self->state))
+        return NULL;
+    const tg_edge edge = { asked[0], asked[1], asked[2] };
+    tg_status status = self->state->library.view_follow(&self->place, &edge, &followed);
+    return counted(self->state, status, followed, NULL);
+}
+
 static PyMethodDef view_methods[] = {
-    WITH_WORDS(view, open) WITH_WORDS(view, could)
+    WITH_WORDS(view, open) WITH_WORDS(view, could) WITH_WORDS(view, could_as_if) WITH_WORDS(view, follow)
     ALONE(view, close) ALONE(view, is_open)
     { NULL, NULL, 0, NULL },
 };

@@ -5,7 +5,7 @@ from typing import TYPE_CHECKING, Iterable, Optional, Tuple
 
 from ._backend import back_end
 from ._held import Held, place_of
-from ._packed import scene_in
+from ._packed import edges_in, scene_in
 from .outlook import OUTLOOKS, Chance
 
 if TYPE_CHECKING:
@@ -37,3 +37,22 @@ class View(Held):
         does, whatever those who act do, that no worker reached x, and Perhaps, which says nothing. It raises BadRights if it
         isn't one right."""
         return OUTLOOKS[self._place.could(x, right, y)]()
+
+    def could_as_if(self, x: int, right: int, y: int, as_if: Iterable[Tuple[int, int, int]]) -> Chance:
+        """Answers as `could` does, as if these edges were there too. So a host asks about a grant, by the edge from the vertex that is
+        given the rights to their target. If an edge joins two parts of the view, the answer is Perhaps, and `Store.could` answers.
+
+        It raises BadRights if it isn't one right. It raises BadEdge if an edge joins a vertex to itself, or has an end that no worker
+        reached at the opening."""
+        return OUTLOOKS[self._place.could_as_if(edges_in(as_if), x, right, y)]()
+
+    def follow(self, edge: Tuple[int, int, int]) -> bool:
+        """Has the view go on with an edge that came since its opening, such as the edge of a grant. The edge leads from the vertex that
+        was given the rights to their target. Returns whether the view goes on. Then it answers about the graph with the edge too. If
+        the edge joins two parts of the view, it stays as it was, and another view has to be opened.
+
+        The view answers about the graph of its opening, with the edges that it followed. If other commands changed the graph since,
+        open another view. It raises BadRights if the rights are none. It raises BadEdge if the edge joins a vertex to itself, or has an
+        end that no worker reached at the opening."""
+        source, target, rights = edge
+        return bool(self._place.follow(source, target, rights))

@@ -98,6 +98,8 @@ class Could(unittest.TestCase):
         self.assertEqual(chances, [self.seen(answer) for answer in answers])
         for question, answer in zip(asked, answers):
             self.assertIs(type(answer), type(drawn.model.could(*question, silent, as_if)))
+        self.assertEqual([store.could_kind(x, right, y, silent, as_if) for x, right, y in asked], [type(answer) for answer in answers])
+        self.must_break(store, asked, answers, silent, as_if)
         self.assertEqual(store.entries(), entries)
         for kind in (NURSERY, FULL):
             store.collect(kind)
@@ -105,6 +107,15 @@ class Could(unittest.TestCase):
             with store.view(silent, as_if) as view:
                 self.assertEqual([view.could(x, right, y) for x, right, y in asked], chances)
         return {type(answer) for answer in answers}
+
+    def must_break(self, store, asked, answers, silent, as_if):
+        """Each breach of a policy is the first question from there on that isn't answered never."""
+        first = 0
+        while first <= len(asked):
+            breach = store.could_any(asked[first:], silent, as_if)
+            more = [at for at in range(first, len(asked)) if answers[at] != outlook.Never()]
+            self.assertEqual(breach, outlook.Breach(more[0] - first, answers[more[0]]) if more else None)
+            first = more[0] + 1 if more else len(asked) + 1
 
     def seen(self, answer):
         """The answer of a view to a question that has this answer."""
@@ -146,6 +157,22 @@ class Could(unittest.TestCase):
             makings = [turn for turn in answer.turns if isinstance(turn.deed, journal.Create)]
             self.assertEqual(answer.names, len(makings))
 
+    def test_a_view_goes_on_after_a_grant(self):
+        with opened(2, [(0, 1, GRANT)]) as store:
+            document = store.create(0, READ | WRITE, Cell(7))
+            with store.view([0]) as view:
+                store.grant(0, 1, document, READ)
+                self.assertEqual(view.could(1, READ, document), outlook.Never())
+                self.assertIs(view.follow((1, document, READ)), True)
+                self.assertEqual((view.could(1, READ, document), view.could(1, WRITE, document)), (outlook.Perhaps(), outlook.Never()))
+                self.assertIs(view.follow((1, 0, TAKE)), False)
+                self.assertEqual(view.could(1, WRITE, document), outlook.Never())
+                for edge, refusal in {(1, 1, READ): BadEdge, (1, 99, READ): BadEdge, (1, 0, 0): BadRights}.items():
+                    self.assertRaises(refusal, view.follow, edge)
+                self.assertRaises(TypeError, view.follow, (1, 0, "r"))
+                self.assertRaises(ValueError, view.follow, (1, 0))
+            self.assertRaises(NotOpen, view.follow, (1, document, READ))
+
     def test_a_view_is_of_its_moment(self):
         with opened() as store:
             document = store.create(0, READ | WRITE, Cell(7))
@@ -154,6 +181,11 @@ class Could(unittest.TestCase):
             self.assertIsInstance(view, View)
             self.assertEqual(store.entries(), entries)
             self.assertEqual(view.could(1, WRITE, document), outlook.Never())
+            self.assertEqual(view.could_as_if(1, WRITE, document, [(1, document, READ)]), outlook.Never())
+            self.assertEqual(view.could_as_if(1, READ, document, [(1, document, READ)]), outlook.Perhaps())
+            for edge, refusal in {(1, 1, READ): BadEdge, (1, 99, READ): BadEdge, (1, 0, 0): BadRights}.items():
+                self.assertRaises(refusal, view.could_as_if, 1, READ, document, [edge])
+            self.assertRaises(BadRights, view.could_as_if, 1, 0, document, [])
             self.assertEqual(view.could(0, WRITE, document), outlook.Perhaps())
             self.assertEqual(other.could(1, WRITE, document), outlook.Perhaps())
             store.retire(2)
@@ -162,6 +194,7 @@ class Could(unittest.TestCase):
         self.assertEqual(view.could(1, WRITE, document), outlook.Never())
         view.close()
         self.assertRaises(NotOpen, view.could, 1, WRITE, document)
+        self.assertRaises(NotOpen, view.could_as_if, 1, WRITE, document, [])
         self.assertRaises(BadRights, view.could, 1, READ | WRITE, document)
         self.assertRaises(TypeError, pickle.dumps, other)
 
@@ -209,9 +242,18 @@ class Could(unittest.TestCase):
         self.assertRaises(OverflowError, store.could, -1, READ, 1)
         self.assertRaises(OverflowError, store.could, 0, READ, 1, [2**64])
         self.assertRaises(TypeError, store.could, 0, READ, "1")
+        for right, scene, refusal in ((0, (), BadRights), (READ, ((), [(0, 1, 0)]), BadRights), (READ, ([2],), NoSuchWorker), (READ, ([], [(0, 0, READ)]), BadEdge)):
+            self.assertRaises(refusal, store.could_kind, 0, right, 1, *scene)
+            self.assertRaises(refusal, store.could_any, [(0, READ, 1), (0, right, 1)], *scene)
+        self.assertRaises(OverflowError, store.could_any, [(0, READ, -1)])
+        self.assertRaises(TypeError, store.could_any, [(0, READ, "1")])
+        self.assertRaises(ValueError, store.could_any, [(0, READ)])
+        self.assertIsNone(store.could_any([]))
         self.assertEqual(store.entries(), entries)
         store.close()
         self.assertRaises(NotOpen, store.could, 0, READ, 1)
+        self.assertRaises(NotOpen, store.could_kind, 0, READ, 1)
+        self.assertRaises(NotOpen, store.could_any, [])
         self.assertRaises(BadRights, store.could, 0, 0, 1)
 
 

@@ -82,12 +82,78 @@ impl View {
     pub fn could(&self, x: u64, right: Rights, y: u64) -> Result<Chance, Error> {
         let mut kind = 0;
         served(unsafe { raw::tg_view_could(self.place.get(), x, right.bits(), y, &mut kind) })?;
-        Ok(match kind {
+        Ok(Chance::told(kind))
+    }
+
+    /// Answers as [`could`](View::could) does, as if these edges were there too. So a host asks about a grant, by the edge from
+    /// the vertex that is given the rights to their target. If an edge joins two parts of the view, the answer is `Perhaps`, and
+    /// [`Store::could`] answers. It is `BadRights` if it isn't one right. It is `BadEdge` if an edge joins a vertex to itself,
+    /// or has an end that no worker reached at the opening.
+    ///
+    /// ```
+    /// # use kovshenul::{Chance, Edge, Error, Limits, Rights, Store, Value};
+    /// # let mut store = Store::open(&[Value::Cell(0)], &[], &Limits::default())?;
+    /// let document = store.create(0, Rights::READ | Rights::WRITE, Value::Cell(7))?;
+    /// let plugin = store.spawn(0, Rights::GRANT, Value::Cell(0))?;
+    /// let view = store.view(&[0], &[])?;
+    /// let grant = Edge { from: plugin, to: document, rights: Rights::READ };
+    /// assert_eq!(view.could_as_if(plugin, Rights::WRITE, document, &[grant])?, Chance::Never);
+    /// assert_eq!(view.could_as_if(plugin, Rights::READ, document, &[grant])?, Chance::Perhaps);
+    /// # Ok::<(), Error>(())
+    /// ```
+    pub fn could_as_if(&self, x: u64, right: Rights, y: u64, as_if: &[Edge]) -> Result<Chance, Error> {
+        let edges: Vec<RawEdge> = as_if.iter().map(RawEdge::from).collect();
+        let mut kind = 0;
+        served(unsafe {
+            raw::tg_view_could_as_if(
+                self.place.get(),
+                edges.as_ptr(),
+                edges.len(),
+                x,
+                right.bits(),
+                y,
+                &mut kind,
+            )
+        })?;
+        Ok(Chance::told(kind))
+    }
+
+    /// Has the view go on with an edge that came since its opening, such as the edge of a grant. The edge leads from the vertex
+    /// that was given the rights to their target. Returns whether the view goes on. Then it answers about the graph with the edge
+    /// too. If the edge joins two parts of the view, it stays as it was, and another view has to be opened.
+    ///
+    /// The view answers about the graph of its opening, with the edges that it followed. If other commands changed the graph since,
+    /// open another view. It is `BadRights` if the edge's rights are none. It is `BadEdge` if the edge joins a vertex to itself, or
+    /// has an end that no worker reached at the opening.
+    ///
+    /// ```
+    /// # use kovshenul::{Chance, Edge, Error, Limits, Rights, Store, Value};
+    /// # let mut store = Store::open(&[Value::Cell(0)], &[], &Limits::default())?;
+    /// let document = store.create(0, Rights::READ | Rights::WRITE, Value::Cell(7))?;
+    /// let plugin = store.spawn(0, Rights::GRANT, Value::Cell(0))?;
+    /// let mut view = store.view(&[0], &[])?;
+    /// store.grant(0, plugin, document, Rights::READ)?;
+    /// assert!(view.follow(&Edge { from: plugin, to: document, rights: Rights::READ })?);
+    /// assert_eq!(view.could(plugin, Rights::READ, document)?, Chance::Perhaps);
+    /// assert_eq!(view.could(plugin, Rights::WRITE, document)?, Chance::Never);
+    /// # Ok::<(), Error>(())
+    /// ```
+    pub fn follow(&mut self, edge: &Edge) -> Result<bool, Error> {
+        let mut followed = 0;
+        served(unsafe { raw::tg_view_follow(self.place.get(), &RawEdge::from(edge), &mut followed) })?;
+        Ok(followed != 0)
+    }
+}
+
+impl Chance {
+    // By its number.
+    fn told(kind: u64) -> Chance {
+        match kind {
             raw::NEVER => Chance::Never,
             raw::UNREACHED => Chance::Unreached,
             raw::PERHAPS => Chance::Perhaps,
             kind => unreachable!("interface {} has no view that tells {kind}", raw::ABI),
-        })
+        }
     }
 }
 

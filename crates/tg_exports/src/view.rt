@@ -1,10 +1,10 @@
 //! The functions that C calls on a view.
 ghost use Rattle.std.specs.Prelude.{◌≡◌, false, true};
 ghost use Rattle.tg_c.specs.Statuses.{TellsNumber, status_of};
-ghost use Rattle.tg_c.specs.View.{Glances, OpensView};
+ghost use Rattle.tg_c.specs.View.{Follows, Glances, GlancesAsIf, OpensView};
 
 use std::alloc::Global;
-use tg_c::forms::EdgeIn;
+use tg_c::forms::{EdgeIn, QuestionIn};
 use tg_c::held::Holder;
 use tg_c::place::StorePlace;
 use tg_c::refusal::CallRefusal;
@@ -48,6 +48,50 @@ pub extern "C" fn tg_view_could(
     ensures { Glances view.old view.new x right y (TellsNumber result kind.old kind.new) }
 {
     tell_number(calls::ask_view(alloc, view, x, right, y), kind)
+}
+
+/// Answers as [`tg_view_could`] does, as if the edges of `as_if` were there too. Each edge has to join two vertices
+/// that workers reached at the opening. The answer isn't known if an edge joins two parts of the view.
+#[unsafe(no_mangle)]
+pub extern "C" fn tg_view_could_as_if(
+    alloc: Global,
+    view: &mut ViewPlace,
+    as_if: &[EdgeIn],
+    x: u64,
+    right: u64,
+    y: u64,
+    kind: &mut u64,
+) -> u32
+    ensures { GlancesAsIf view.old view.new as_if.now x right y kind.old kind.new result }
+{
+    let asked = QuestionIn { x, right, y };
+    match calls::ask_view_as_if(alloc, view, as_if, asked) {
+        Ok(glimpse) => {
+            *kind = glimpse.kind();
+            DONE
+        }
+        Err(refusal) => refusal.status(),
+    }
+}
+
+/// Has a view go on with an edge that came since its opening, such as the edge of a grant. `is_followed` gets 1 if it
+/// does. It gets 0 if the edge joins two parts of the view, which stays as it was.
+#[unsafe(no_mangle)]
+pub extern "C" fn tg_view_follow(
+    alloc: Global,
+    view: &mut ViewPlace,
+    edge: &EdgeIn,
+    is_followed: &mut u64,
+) -> u32
+    ensures { Follows view.old view.new edge.now is_followed.old is_followed.new result }
+{
+    match calls::follow(alloc, view, edge) {
+        Ok(followed) => {
+            *is_followed = if followed { 1 } else { 0 };
+            DONE
+        }
+        Err(refusal) => refusal.status(),
+    }
 }
 
 /// Gives back all memory of a view. The place is closed then, whether it was open or not.

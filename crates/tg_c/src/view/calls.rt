@@ -1,17 +1,20 @@
 //! The calls on a view in its place, in Rattle's own types.
-ghost use Rattle.std.specs.Prelude.{◌≡◌, IfOk, IfErr};
+ghost use Rattle.std.specs.Prelude.{◌≡◌, IfOk, IfErr, map};
 ghost use Rattle.tg_c.specs.Inner.Stores.{KeepsStore};
-ghost use Rattle.tg_c.specs.View.{Glances, IsRefusedView, IsSeen};
+ghost use Rattle.tg_c.specs.Forms.{HaveLabels, edge_in};
+ghost use Rattle.tg_c.specs.View.{Glances, IsFollowedIn, IsGlimpseAsIf, IsNoGlimpse, IsNotFollowedIn, IsRefusedAsIf, IsRefusedView, IsSeen, IsSeenAsIf, KeepsView};
 
-use crate::forms::EdgeIn;
+use crate::forms::{EdgeIn, QuestionIn, label_of};
 use crate::held::Holder;
 use crate::law_store::LawStore;
-use crate::opening::check_rights;
+use crate::opening::{check_rights, edges_in};
 use crate::place::StorePlace;
 use crate::refusal::CallRefusal;
 use crate::view::place::ViewPlace;
-use crate::view::sight::Sight;
+use crate::view::sight::{Glimpse, Sight};
 use std::alloc::Global;
+use tg_could::Question;
+use tg_model::Edge;
 use tg_rights::Right;
 
 /// Opens a view, which no place has yet, of the store in a place. The silent workers take no turns, and the edges of
@@ -61,6 +64,79 @@ pub fn ask_view(
         return Err(CallRefusal::BadRights);
     };
     view.with_open(alloc, |sight| sight.could(x, right, y).kind())
+}
+
+/// The view's answer to a question, as if the edges of `as_if` were there too. The checks have this order:
+///
+/// 1. the right,
+/// 2. the rights of the edges,
+/// 3. whether the view's place is open,
+/// 4. with memory, whether each edge joins two different vertices that workers reached at the opening.
+///
+/// The view is as it was.
+pub fn ask_view_as_if(
+    alloc: Global,
+    view: &mut ViewPlace,
+    as_if: &[EdgeIn],
+    asked: QuestionIn,
+) -> Result<Glimpse, CallRefusal>
+    ensures kept { KeepsView view.old view.new }
+    ensures told { IfOk result (IsSeenAsIf view.old as_if.now asked.x asked.right asked.y) }
+    ensures refused { IfErr result (IsRefusedAsIf view.old as_if.now asked.right) }
+{
+    let Some(right) = Right::of_bit(asked.right) else {
+        return Err(CallRefusal::BadRights);
+    };
+    check_rights(as_if)?;
+    let Some(sight) = view.take(alloc) else {
+        return Err(CallRefusal::NotOpen);
+    };
+    let question = Question {
+        x: asked.x,
+        right,
+        y: asked.y,
+    };
+    let told = glimpse_as_if(alloc, &sight, as_if, question);
+    view.put(sight);
+    told
+}
+
+/// Has the view follow an edge that came since its opening ([`Sight::follow`]). The checks have this order:
+///
+/// 1. the rights of the edge,
+/// 2. whether the view's place is open,
+/// 3. with memory, whether the edge joins two different vertices that workers reached at the opening.
+pub fn follow(alloc: Global, view: &mut ViewPlace, edge: &EdgeIn) -> Result<bool, CallRefusal>
+    ensures stays { view.new.is_open ≡ view.old.is_open }
+    ensures told { IfOk result (IsFollowedIn view.old edge.now view.new) }
+    ensures refused { IfErr result (IsNotFollowedIn view.old edge.now view.new) }
+{
+    let label = label_of(edge.rights)?;
+    let Some(mut sight) = view.take(alloc) else {
+        return Err(CallRefusal::NotOpen);
+    };
+    let followed = sight.follow(Edge {
+        from: edge.from,
+        to: edge.to,
+        label,
+    });
+    view.put(sight);
+    followed
+}
+
+// The answer of a view with supposed edges, after their rights were checked.
+fn glimpse_as_if(
+    alloc: Global,
+    sight: &Sight,
+    as_if: &[EdgeIn],
+    asked: Question,
+) -> Result<Glimpse, CallRefusal>
+    requires { HaveLabels as_if.now }
+    ensures told { IfOk result (IsGlimpseAsIf sight.now (map edge_in as_if.now) asked.x asked.right asked.y) }
+    ensures refused { IfErr result (IsNoGlimpse sight.now (map edge_in as_if.now)) }
+{
+    let edges = edges_in(alloc, as_if)?;
+    sight.could_as_if(edges.as_slice(), asked.x, asked.right, asked.y)
 }
 
 impl LawStore {

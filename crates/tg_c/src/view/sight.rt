@@ -1,10 +1,10 @@
 //! The value that the handle of a view points to.
 ghost use Rattle.std.specs.Prelude.{◌≡◌, ◌↔◌, ◌<◌, ℕ, List, false, IfOk, IfErr, IsTrue};
-ghost use Rattle.std.specs.List.{Contains};
+ghost use Rattle.std.specs.List.{All, Contains};
 ghost use Rattle.tg_could.specs.Reached.{IsReachedPicture, JoinReached, with_edges};
 ghost use Rattle.tg_model.specs.Graph.{ProtectionGraph, IsSound};
 ghost use Rattle.tg_c.specs.Calls.{IsMemoryOr};
-ghost use Rattle.tg_c.specs.View.{AreShown, IsGlimpse, IsSightOf, is_seen, kind_seen};
+ghost use Rattle.tg_c.specs.View.{AreShown, IsFollowed, IsGlimpse, IsGlimpseAsIf, IsNoGlimpse, IsNotFollowed, IsSightOf, JoinsSeen, is_seen, kind_seen};
 
 use crate::refusal::CallRefusal;
 use indexmap::IndexSet;
@@ -103,6 +103,74 @@ impl Sight {
             Chance::Never => Glimpse::Never,
             Chance::Perhaps => Glimpse::Perhaps,
         }
+    }
+
+    /// Answers as [`Sight::could`] does on the graph with these edges too. If an edge joins two parts of the view, the
+    /// answer is `Perhaps`. `BadEdge` is returned if an edge doesn't join two different vertices that active subjects
+    /// reach. Takes no memory, and time in proportion to the edges to y, to those that the view followed, and to these.
+    pub fn could_as_if(
+        &self,
+        supposed: &[Edge],
+        x: u64,
+        right: Right,
+        y: u64,
+    ) -> Result<Glimpse, CallRefusal>
+        ensures told { IfOk result (IsGlimpseAsIf self.now supposed.now x right y) }
+        ensures refused { IfErr result (IsNoGlimpse self.now supposed.now) }
+    {
+        if !self.join_seen(supposed) {
+            return Err(CallRefusal::BadEdge);
+        }
+        if self.is_unreached(x) {
+            return Ok(Glimpse::Unreached);
+        }
+        let Some(seen) = &self.seen else {
+            return Ok(Glimpse::Never);
+        };
+        match seen.view.could_as_if(supposed, Question { x, right, y }) {
+            Chance::Never => Ok(Glimpse::Never),
+            Chance::Perhaps => Ok(Glimpse::Perhaps),
+        }
+    }
+
+    /// Adds an edge that came since to the view, such as the edge of a grant. Returns whether it was added. It isn't if
+    /// it joins two parts of the view, and then the view stays as it was. `BadEdge` is returned if the edge doesn't
+    /// join two different vertices that active subjects reach. Takes memory for one edge.
+    pub fn follow(&mut self, edge: Edge) -> Result<bool, CallRefusal>
+        ensures told { IfOk result (IsFollowed self.old edge self.new) }
+        ensures refused { IfErr result (IsNotFollowed self.old edge self.new) }
+    {
+        if !self.joins_seen(&edge) {
+            return Err(CallRefusal::BadEdge);
+        }
+        let Some(mut seen) = self.seen.take() else {
+            return Ok(false);
+        };
+        let followed = seen.view.follow(edge);
+        self.seen = Some(seen);
+        match followed {
+            Ok(is_followed) => Ok(is_followed),
+            Err(error) => Err(error.into()),
+        }
+    }
+
+    // Whether each edge joins two different vertices that an active subject reaches.
+    fn join_seen(&self, edges: &[Edge]) -> bool
+        ensures { IsTrue result ↔ All (JoinsSeen self.now.seen) edges.now }
+    {
+        for edge in edges {
+            if !self.joins_seen(edge) {
+                return false;
+            }
+        }
+        true
+    }
+
+    // Whether an edge joins two different vertices that an active subject reaches.
+    fn joins_seen(&self, edge: &Edge) -> bool
+        ensures { IsTrue result ↔ JoinsSeen self.now.seen edge.now }
+    {
+        edge.from != edge.to && self.has_seen(edge.from) && self.has_seen(edge.to)
     }
 
     // Whether the vertex with a name was made, and no active subject reaches it.
