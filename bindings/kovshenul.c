@@ -15,6 +15,7 @@ tg_status proved_tg_grant(tg_store *store, uint64_t worker, uint64_t via, uint64
 tg_status proved_tg_remove(tg_store *store, uint64_t worker, uint64_t target, uint64_t rights, tg_denial *denial);
 tg_status proved_tg_hand(tg_store *store, const tg_handing *handing, uint64_t *removed, tg_denial *denial);
 tg_status proved_tg_park(tg_store *store, const tg_parking *parking, uint64_t *edges, tg_denial *denial);
+tg_status proved_tg_unpark(tg_store *store, const tg_parking *parking, uint64_t *edges, tg_denial *denial);
 tg_status proved_tg_write(tg_store *store, uint64_t worker, uint64_t target, uint64_t value, tg_denial *denial);
 tg_status proved_tg_append(tg_store *store, uint64_t worker, uint64_t target, uint64_t value, tg_denial *denial);
 tg_status proved_tg_read(tg_store *store, uint64_t worker, uint64_t target, uint64_t *numbers, size_t room, uint64_t *count,
@@ -42,6 +43,10 @@ tg_status proved_tg_snapshot_text(tg_snapshot *snapshot, char *text, size_t room
 tg_status proved_tg_snapshot_read(tg_snapshot *snapshot, const char *text, size_t length, uint64_t *line);
 tg_status proved_tg_could(tg_store *store, const uint64_t *silent, size_t silent_count, const tg_edge *as_if, size_t as_if_count,
                           uint64_t x, uint64_t right, uint64_t y, tg_answer *answer);
+tg_status proved_tg_could_kind(tg_store *store, const uint64_t *silent, size_t silent_count, const tg_edge *as_if, size_t as_if_count,
+                               uint64_t x, uint64_t right, uint64_t y, uint64_t *kind);
+tg_status proved_tg_could_any(tg_store *store, const uint64_t *silent, size_t silent_count, const tg_edge *as_if, size_t as_if_count,
+                              const tg_question *questions, size_t count, uint64_t *at, tg_answer *answer);
 tg_status proved_tg_answer_turn(tg_answer *answer, uint64_t at, tg_record *out, uint64_t *numbers, size_t room);
 tg_status proved_tg_view_open(tg_store *store, const uint64_t *silent, size_t silent_count, const tg_edge *as_if, size_t as_if_count,
                               tg_view *view);
@@ -87,6 +92,11 @@ tg_status tg_hand(tg_store *store, const tg_handing *handing, uint64_t *removed,
 tg_status tg_park(tg_store *store, const tg_parking *parking, uint64_t *edges, tg_denial *denial) {
     tg_denial unwanted;
     return proved_tg_park(store, parking, edges, denial == NULL ? &unwanted : denial);
+}
+
+tg_status tg_unpark(tg_store *store, const tg_parking *parking, uint64_t *edges, tg_denial *denial) {
+    tg_denial unwanted;
+    return proved_tg_unpark(store, parking, edges, denial == NULL ? &unwanted : denial);
 }
 
 tg_status tg_write(tg_store *store, uint64_t worker, uint64_t target, uint64_t value, tg_denial *denial) {
@@ -180,6 +190,26 @@ tg_status tg_could(tg_store *store, const uint64_t *silent, size_t silent_count,
     if (as_if == NULL && as_if_count == 0)
         as_if = (const tg_edge *)nothing;
     return proved_tg_could(store, silent, silent_count, as_if, as_if_count, x, right, y, answer);
+}
+
+tg_status tg_could_kind(tg_store *store, const uint64_t *silent, size_t silent_count, const tg_edge *as_if, size_t as_if_count,
+                        uint64_t x, uint64_t right, uint64_t y, uint64_t *kind) {
+    if (silent == NULL && silent_count == 0)
+        silent = nothing;
+    if (as_if == NULL && as_if_count == 0)
+        as_if = (const tg_edge *)nothing;
+    return proved_tg_could_kind(store, silent, silent_count, as_if, as_if_count, x, right, y, kind);
+}
+
+tg_status tg_could_any(tg_store *store, const uint64_t *silent, size_t silent_count, const tg_edge *as_if, size_t as_if_count,
+                       const tg_question *questions, size_t count, uint64_t *at, tg_answer *answer) {
+    if (silent == NULL && silent_count == 0)
+        silent = nothing;
+    if (as_if == NULL && as_if_count == 0)
+        as_if = (const tg_edge *)nothing;
+    if (questions == NULL && count == 0)
+        questions = (const tg_question *)nothing;
+    return proved_tg_could_any(store, silent, silent_count, as_if, as_if_count, questions, count, at, answer);
 }
 
 tg_status tg_answer_turn(tg_answer *answer, uint64_t at, tg_record *out, uint64_t *numbers, size_t room) {

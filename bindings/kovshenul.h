@@ -9,7 +9,7 @@
    Each call whose type is tg_status returns a status. The library's exports have contracts, which are proved
    (crates/tg_c/specs). They say what TG_DONE and TG_DENIED mean, and when each refusal comes, with two exceptions.
    TG_OUT_OF_MEMORY may come from each call that needs memory. TG_HEAP_FULL comes only where the limits may leave no room, which of
-   tg_park isn't proved. Only of tg_open is it proved too that it comes there.
+   tg_park and tg_unpark isn't proved. Only of tg_open is it proved too that it comes there.
    The files kovshenul.c, naming.c and showing.c come before the exports, and are tested and not proved. They have the use of
    NULL, tg_apply_all (which makes proved calls one after the other), the texts, tg_snapshot_next and tg_version. Nothing checks
    what this header asks of its caller.
@@ -109,7 +109,8 @@ enum {
     TG_WORKERS_FULL = 35,     /* tg_spawn: 64 workers are active, and a vertex may be made. The journal has an entry of it */
 
     TG_NO_SUCH_WORKER = 48,   /* exactly where the store is open, no worker has the name, and no argument is TG_BAD_.. */
-    TG_IN_USE = 49,           /* tg_park: the account holds some right already, or the user holds a right over it */
+    TG_IN_USE = 49,           /* tg_park: the account holds some right already, or the user holds a right over it.
+                                 tg_unpark: the user holds some right already, or the account holds a right over it */
 
     TG_BAD_RIGHTS = 64,       /* no right, or a bit that is no right. Several rights, if one is asked about. tg_rights_read: other
                                  letters */
@@ -167,11 +168,11 @@ typedef struct tg_handing {
     uint64_t rights;
 } tg_handing;
 
-/* A user whom a host parks, for tg_park: 24 bytes. */
+/* A user whom a host parks or unparks, for tg_park and tg_unpark: 24 bytes. */
 typedef struct tg_parking {
-    uint64_t host;            /* the worker that has g over the user and over the account */
-    uint64_t user;            /* the worker that leaves */
-    uint64_t account;         /* the vertex that is to hold what the user holds */
+    uint64_t host;            /* the worker that has g over the user. Over the account it has g to park, and t to unpark */
+    uint64_t user;            /* the worker that leaves, or that gets what the account holds */
+    uint64_t account;         /* the vertex that is to hold what the user holds, or that holds it */
 } tg_parking;
 
 /* The limits of a store: 24 bytes. */
@@ -368,8 +369,8 @@ tg_status tg_leave(tg_store *store, uint64_t worker, uint64_t *count);
    user stay, and what the user stored is lost with its vertex. How many edges the user had goes to *edges. `denial` may be NULL.
 
    The account is a vertex that holds nothing, such as an object that the host has just made. The host has g over the user and over
-   the account. It needs t over the account too if a worker is to take everything out later (docs/RECIPES.md). Whoever else has t
-   over the account can take what it holds, so let the host alone have rights over it.
+   the account. It needs t over the account too if a worker is to take everything out later (tg_unpark). Whoever else has t over
+   the account can take what it holds, so let the host alone have rights over it.
 
    Each command has an entry of its own, as if its worker had asked for it. The host grants the user g over the account. The user
    grants the account each of its edges, by rising name, and removes its g. Then it leaves, as by tg_leave. So there are two entries
@@ -382,6 +383,27 @@ tg_status tg_leave(tg_store *store, uint64_t worker, uint64_t *count);
    TG_IN_USE, and TG_OUT_OF_MEMORY or TG_HEAP_FULL where the account's edges find no room. There is no entry then, and all labels,
    values and workers are as they were. The room for all entries is made before the grant is decided, with 160 bytes for each edge. */
 tg_status tg_park(tg_store *store, const tg_parking *parking, uint64_t *edges, tg_denial *denial);
+
+/* Unparks a user. A new user takes out what an account holds, and the account is left, completely or not at all. Afterwards the
+   user holds exactly what the account holds, the host holds nothing over the account, and all other labels are as they were. The
+   account still holds what it held. If nobody but the host had a right over the account, no edge leads to it, and the next full
+   collection frees it. How many edges the account has goes to *edges. `denial` may be NULL.
+
+   The user is a worker that holds nothing yet, such as one that the host has just made by tg_spawn. The host has g over the user,
+   and t over the account. A right that the account holds over the host is taken out as all others.
+
+   Each command has an entry of its own, as if its worker had asked for it. The host grants the user t over the account. The user
+   takes each edge of the account, by rising name, and removes its t. Then the host removes all that it holds over the account. So
+   there is an entry for each edge, and three more.
+
+   The host's grant is decided first. It is denied if the host, the user and the account aren't three vertices, or if the host has
+   no g over the user or no t over the account. After TG_DENIED this grant has the only entry. After an unparking the host has no
+   right over the account, so a second unparking of it is denied.
+
+   It is refused in this order: TG_NOT_OPEN, TG_NO_SUCH_WORKER exactly where the host or the user is no worker, TG_OUT_OF_MEMORY,
+   TG_IN_USE, and TG_OUT_OF_MEMORY or TG_HEAP_FULL where the user's edges find no room. There is no entry then, and all labels,
+   values and workers are as they were. The room for all entries is made after the grant is decided, with 80 bytes for each edge. */
+tg_status tg_unpark(tg_store *store, const tg_parking *parking, uint64_t *edges, tg_denial *denial);
 
 /* Lists who holds one right over the vertex with this name: workers, objects, and workers that retired, of all that a worker
    reaches. The first `room` of their names go to names, by rising name. How many there are goes to *count. The answer is the
@@ -707,6 +729,27 @@ enum {
    TG_OUT_OF_MEMORY may come before it. After a refusal *answer is as it was. */
 tg_status tg_could(tg_store *store, const uint64_t *silent, size_t silent_count, const tg_edge *as_if,
                    size_t as_if_count, uint64_t x, uint64_t right, uint64_t y, tg_answer *answer);
+
+/* Answers as tg_could does, and writes the kind of the answer alone, TG_NEVER .., to *kind. There is no answer to close. It takes as
+   long as tg_could, and is refused as tg_could is for a closed answer. After a refusal *kind is as it was. */
+tg_status tg_could_kind(tg_store *store, const uint64_t *silent, size_t silent_count, const tg_edge *as_if, size_t as_if_count,
+                        uint64_t x, uint64_t right, uint64_t y, uint64_t *kind);
+
+/* The question whether x could ever come to hold the right over y, for tg_could_any. 24 bytes. */
+typedef struct tg_question {
+    uint64_t x, right, y;
+} tg_question;
+
+/* Asks many questions at once, as a host does that keeps a policy: each of them is to be answered TG_NEVER. The place of the first
+   question that isn't goes to *at, and its answer to *answer, which must be closed. If each is answered TG_NEVER, `count` goes to
+   *at, and *answer is as it was. The answers are those of tg_could, as if the edges as_if were there too.
+
+   A view of the store is made once, and asked first. A question costs the time of the edges to its y if the view answers TG_NEVER.
+   Otherwise the question costs what tg_could costs. Nothing is asked after the first breach. The store is as it was, and its journal
+   gets no entry. It is refused as tg_could is, and in the same order, with TG_BAD_RIGHTS if one of the rights isn't one right.
+   After a refusal *at and *answer are as they were. */
+tg_status tg_could_any(tg_store *store, const uint64_t *silent, size_t silent_count, const tg_edge *as_if, size_t as_if_count,
+                       const tg_question *questions, size_t count, uint64_t *at, tg_answer *answer);
 
 /* Writes the kind of the answer, TG_NEVER .., to *kind. A closed answer is TG_NOT_OPEN, here and in the calls below. */
 tg_status tg_answer_kind(tg_answer *answer, uint64_t *kind);

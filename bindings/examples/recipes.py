@@ -1,5 +1,5 @@
 """The recipes of docs/RECIPES.md for hosts of a store, a function each, and a run of them."""
-from kovshenul import FULL, GRANT, INSPECT, READ, TAKE, WRITE, Auditor, Cell, Denied, Refused, Rights, Store, outlook
+from kovshenul import FULL, GRANT, READ, TAKE, WRITE, Auditor, Cell, Denied, Refused, Rights, Store, outlook
 
 HOST = 0
 
@@ -47,7 +47,7 @@ def end(store, client):
 
 def log_out(store, user):
     """Parks a user who logs out. Returns the account, which holds all that the user held."""
-    account = store.create(HOST, TAKE | GRANT | INSPECT, Cell(0))
+    account = store.create(HOST, TAKE | GRANT, Cell(0))
     store.park(HOST, user, account)
     store.remove(HOST, user, TAKE | GRANT)
     return account
@@ -56,11 +56,7 @@ def log_out(store, user):
 def log_in(store, account):
     """A subject for a user who comes back. It holds all that the account holds, and the account is given up."""
     user = store.spawn(HOST, TAKE | GRANT, Cell(0))
-    store.grant(HOST, user, account, TAKE)
-    for target in store.inspect(HOST, account):
-        store.take(user, account, target.to, target.rights)
-    store.remove(user, account, TAKE)
-    store.remove(HOST, account, TAKE | GRANT | INSPECT)
+    store.unpark(HOST, user, account)
     return user
 
 

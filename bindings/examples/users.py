@@ -2,13 +2,12 @@
 
 The users are in 20 departments. A user reads its own mailbox, writes to the mailbox of a colleague, and adds to the ledger of its
 department. The policy is that no user ever reads the ledger of another department. It is asked for all 1,000 users."""
-from kovshenul import APPEND, FULL, GRANT, INSPECT, READ, TAKE, WRITE, Auditor, Cell, Log, Store, Sum, journal, outlook
+from kovshenul import APPEND, FULL, GRANT, INSPECT, READ, TAKE, WRITE, Auditor, Cell, Log, Store, Sum, outlook
 
 # The host, and two workers that never ask for anything. In a question they act for the users who are away.
 HOST, INSIDERS, OUTSIDERS = range(3)
 USERS, DEPARTMENTS, AT_ONCE, VISITS = 1000, 20, 60, 2
 OVER_ACCOUNT = TAKE | GRANT | INSPECT
-MOST_COMMANDS = 1024
 
 
 def log_out(store, user):
@@ -20,14 +19,9 @@ def log_out(store, user):
 
 
 def log_in(store, account):
-    """A subject that holds exactly what the account holds. The account is given up."""
+    """Unparks a user. Returns a subject that holds exactly what the account holds. The account is given up."""
     user = store.spawn(HOST, TAKE | GRANT, Cell(0))
-    store.grant(HOST, user, account, TAKE)
-    takes = [journal.Take(account, target.to, target.rights) for target in store.inspect(HOST, account)]
-    for at in range(0, len(takes), MOST_COMMANDS):
-        store.apply_all(user, takes[at : at + MOST_COMMANDS])
-    store.remove(user, account, TAKE)
-    store.remove(HOST, account, OVER_ACCOUNT)
+    store.unpark(HOST, user, account)
     return user
 
 

@@ -209,10 +209,25 @@ static uint64_t tell_story(void) {
     CALL(tg_law(&store, 0, 2, &law));
     if (law.law != TG_LOG || law.most != 2 || made != before)
         stop(__LINE__, 0);
+    /* A new user takes out what the account holds. */
+    CALL(tg_spawn(&store, 0, TG_GRANT, &kinds[1], &name));
+    const tg_parking unparking = { 0, name, account };
+    CALL(tg_unpark(&store, &unparking, &count, &why));
+    if (count != 8)
+        stop(__LINE__, 0);
     /* A question as if 1 had a right over the worker. The answer outlives the store. */
     const tg_edge supposed = { 1, 0, TG_TAKE };
     tg_answer answer = TG_ANSWER_INIT;
     CALL(tg_could(&store, NULL, 0, &supposed, 1, 1, TG_WRITE, 2, &answer));
+    /* Its kind alone, and the first breach of a policy, of whom the second could be. */
+    const tg_question asked[2] = { { 1, TG_READ, 999 }, { 1, TG_WRITE, 2 } };
+    tg_answer breach = TG_ANSWER_INIT;
+    CALL(tg_could_kind(&store, NULL, 0, &supposed, 1, 1, TG_WRITE, 2, &count));
+    if (count != TG_COULD)
+        stop(__LINE__, 0);
+    CALL(tg_could_any(&store, NULL, 0, &supposed, 1, asked, 2, &count, &breach));
+    if (count != 0 || tg_answer_close(&breach) != TG_DONE)
+        stop(__LINE__, 0);
     /* A view of the same, of which a question takes no memory. */
     tg_view view = TG_VIEW_INIT;
     CALL(tg_view_open(&store, NULL, 0, &supposed, 1, &view));

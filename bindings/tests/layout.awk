@@ -60,6 +60,7 @@ BEGIN {
     types["EdgeIn"] = "tg_edge"; types["ValueIn"] = "tg_value"; types["LimitsIn"] = "tg_limits"
     types["DenialOut"] = "tg_denial"; types["EdgeOut"] = "tg_target"; types["CensusOut"] = "tg_counts"
     types["RecordOut"] = "tg_record"; types["HandIn"] = "tg_handing"; types["ParkingIn"] = "tg_parking"; types["LawOut"] = "tg_vertex_law"
+    types["QuestionIn"] = "tg_question"
     types["StorePlace"] = "tg_store"; types["StoreHandle"] = "twin_StoreHandle"
     types["AnswerPlace"] = "tg_answer"; types["AnswerHandle"] = "twin_AnswerHandle"
     types["AuditorPlace"] = "tg_auditor"; types["AuditorHandle"] = "twin_AuditorHandle"

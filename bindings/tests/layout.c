@@ -53,6 +53,11 @@ SAME(offsetof(tg_parking, host), 0);
 SAME(offsetof(tg_parking, user), 8);
 SAME(offsetof(tg_parking, account), 16);
 
+SAME(sizeof(tg_question), 24);
+SAME(offsetof(tg_question, x), 0);
+SAME(offsetof(tg_question, right), 8);
+SAME(offsetof(tg_question, y), 16);
+
 SAME(sizeof(tg_limits), 24);
 SAME(offsetof(tg_limits, max_vertices), 0);
 SAME(offsetof(tg_limits, max_blocks), 8);

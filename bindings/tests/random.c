@@ -57,6 +57,7 @@ struct run {
     uint64_t made;
     struct worker workers[MOST_WORKERS];    /* those that are active, by rising name */
     uint64_t active;
+    tg_parking parked;     /* the last parking that was done */
     tg_denial why;
     long answered, refused_memory, refused_heap;
     uint64_t denied, vertices_full, workers_full, nursery_collections, full_collections;
@@ -603,12 +604,12 @@ static void look_at_law(struct run *run, uint64_t x, uint64_t y) {
     want(run, law.law == wanted || (!is_shown && law.law == TG_NO_LAW), "another law for the host");
 }
 
-/* The entries of a parking, as the store has them. Their number is that of the edges twice, and three. */
-static void put_parking(struct run *run, uint64_t from, uint64_t edges) {
+/* The entries of a parking or of an unparking, as the store has them. */
+static void put_parking(struct run *run, uint64_t from, uint64_t count) {
     tg_store *store = store_of(run);
     const uint64_t upto = next_entry(run, store);
     tg_record entry;
-    want(run, upto == from + 2 * edges + 3, "the entries of a parking");
+    want(run, upto == from + count, "the entries of a parking");
     for (uint64_t at = from; at < upto; at++) {
         want(run, tg_entry(store, at, &entry, NULL, 0, NULL, 0) == TG_DONE, "an entry of a parking");
         say_entry(run, &entry);
@@ -634,12 +635,35 @@ static void park_some(struct run *run) {
     const tg_status status = tg_park(store, &it, &edges, &run->why);
     want(run, (status == TG_DONE) == (edges != UNTOUCHED), "a count of what isn't parked");
     if (status == TG_DONE) {
-        put_parking(run, entries, edges);
+        put_parking(run, entries, 2 * edges + 3);
         drop_worker(run, it.user);
+        run->parked = it;
     } else if (status != TG_IN_USE && status != TG_NO_SUCH_WORKER)
         is_done(run, status, before);
     else
         want(run, next_entry(run, store) == entries, "an entry of a parking that is refused");
+}
+
+/* The account that was filled last, or another vertex, is taken out by the youngest worker. Mostly the host of the account has just
+   spawned this worker. The script has the commands, or of a denied unparking the host's grant. */
+static void unpark_some(struct run *run) {
+    if (below(run, 4) > 0)
+        make_by(run, 1, run->parked.host);
+    const tg_parking it = { run->parked.host, run->workers[run->active - 1].name, below(run, 8) == 0 ? name_of_some(run) : run->parked.account };
+    tg_store *store = store_of(run);
+    uint64_t edges = UNTOUCHED, rights = 0;
+    const uint64_t entries = next_entry(run, store);
+    const long before = refused;
+    say(run, "%" PRIu64 " grant %" PRIu64 " %" PRIu64 " t", it.host, it.user, it.account);
+    const tg_status status = tg_unpark(store, &it, &edges, &run->why);
+    want(run, (status == TG_DONE) == (edges != UNTOUCHED), "a count of what isn't unparked");
+    if (status == TG_DONE) {
+        put_parking(run, entries, edges + 3);
+        want(run, tg_label(store, it.host, it.account, &rights) == TG_DONE && rights == 0, "an account that isn't left");
+    } else if (status != TG_IN_USE && status != TG_NO_SUCH_WORKER)
+        is_done(run, status, before);
+    else
+        want(run, next_entry(run, store) == entries, "an entry of an unparking that is refused");
 }
 
 /* One of those after the three oldest mostly. The last three stay. */
@@ -724,6 +748,21 @@ static uint64_t answer_to(struct run *run, const struct question *it) {
     return kind;
 }
 
+/* Its kind alone, and the place at which a policy of this question twice is broken, agree with its answer. */
+static void ask_simply(struct run *run, const struct question *it, uint64_t kind) {
+    const tg_question asked[2] = { { it->x, it->right, it->y }, { it->x, it->right, it->y } };
+    tg_answer answer = TG_ANSWER_INIT;
+    uint64_t alone = UNTOUCHED, at = UNTOUCHED;
+    long before = refused;
+    if (is_told(run, tg_could_kind(store_of(run), it->silent, it->silent_count, &it->as_if, it->as_if_count, it->x, it->right, it->y, &alone), before))
+        want(run, alone == kind, "another kind");
+    before = refused;
+    if (!is_told(run, tg_could_any(store_of(run), it->silent, it->silent_count, &it->as_if, it->as_if_count, asked, 2, &at, &answer), before))
+        return;
+    want(run, at == (kind == TG_NEVER ? 2 : 0) && answer.is_open == (kind != TG_NEVER), "another breach");
+    want(run, kind == TG_NEVER || (tg_answer_kind(&answer, &alone) == TG_DONE && alone == kind && tg_answer_close(&answer) == TG_DONE), "a breach");
+}
+
 /* The answer of a view to it, or nothing if memory was refused. */
 static uint64_t chance_of(struct run *run, const struct question *it) {
     tg_view view = TG_VIEW_INIT;
@@ -755,6 +794,7 @@ static void ask_some(struct run *run) {
     if (kind == UNTOUCHED)
         return;
     put_question(run, &it, kind);
+    ask_simply(run, &it, kind);
     want(run, next_entry(run, store_of(run)) == entries, "an entry of a question");
     for (int times = 0; times < 2; times++) {
         uint64_t again = answer_to(run, &it), chance = chance_of(run, &it);
@@ -781,9 +821,11 @@ static void command(struct run *run) {
         make(run, 1);
     else if (which < 95)
         retire(run);
-    else if (which < 97)
+    else if (which < 97) {
         park_some(run);
-    else if (which < 99)
+        if (below(run, 2) == 0)
+            unpark_some(run);
+    } else if (which < 99)
         look_at_workers(run);
     else if (which < 100)
         look_at_law(run, name_of_worker(run), name_of_some(run));

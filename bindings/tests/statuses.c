@@ -663,25 +663,36 @@ static void rights_are_withdrawn(void) {
     WANT(tg_close(&store) == TG_DONE);
 }
 
-/* That the parking is denied, on this edge or for a vertex that is named twice, with the host's grant as the only entry. */
-static void is_denied_parking(tg_store *store, tg_parking parking, tg_denial wanted) {
+/* A call that parks a user or unparks it. */
+typedef tg_status parking_call(tg_store *store, const tg_parking *parking, uint64_t *edges, tg_denial *denial);
+
+/* That the call is denied, on this edge or for a vertex that is named twice, with the host's grant of the right as the only entry. */
+static void is_denied_call(parking_call *call, tg_store *store, tg_parking parking, uint64_t right, tg_denial wanted) {
     const uint64_t before = entries_of(store);
     uint64_t count = UNTOUCHED;
     tg_record entry;
     why = (tg_denial){ 99, 99, 99, 99, 99 };
-    WANT(tg_park(store, &parking, &count, &why) == TG_DENIED && count == UNTOUCHED && memcmp(&why, &wanted, sizeof why) == 0);
+    WANT(call(store, &parking, &count, &why) == TG_DENIED && count == UNTOUCHED && memcmp(&why, &wanted, sizeof why) == 0);
     WANT(entries_of(store) == before + 1 && tg_entry(store, before, &entry, NULL, 0, NULL, 0) == TG_DONE);
     WANT(entry.worker == parking.host && entry.deed == TG_DEED_GRANT && entry.via == parking.user && entry.target == parking.account);
-    WANT(entry.rights == TG_GRANT && entry.reply == TG_REPLY_DENIED && memcmp(&entry.denial, &wanted, sizeof why) == 0);
+    WANT(entry.rights == right && entry.reply == TG_REPLY_DENIED && memcmp(&entry.denial, &wanted, sizeof why) == 0);
 }
 
-/* That the parking is refused, with no entry. */
-static void is_refused_parking(tg_store *store, tg_parking parking, tg_status status) {
+/* That the call is refused, with no entry. */
+static void is_refused_call(parking_call *call, tg_store *store, tg_parking parking, tg_status status) {
     const uint64_t before = store->is_open ? entries_of(store) : 0;
     uint64_t count = UNTOUCHED;
     why = (tg_denial){ 99, 99, 99, 99, 99 };
-    WANT(tg_park(store, &parking, &count, &why) == status && count == UNTOUCHED && why.rule == 99);
+    WANT(call(store, &parking, &count, &why) == status && count == UNTOUCHED && why.rule == 99);
     WANT(!store->is_open || entries_of(store) == before);
+}
+
+static void is_denied_parking(tg_store *store, tg_parking parking, tg_denial wanted) {
+    is_denied_call(tg_park, store, parking, TG_GRANT, wanted);
+}
+
+static void is_refused_parking(tg_store *store, tg_parking parking, tg_status status) {
+    is_refused_call(tg_park, store, parking, status);
 }
 
 /* That the entry at a place is this command, and was done. */
@@ -734,6 +745,87 @@ static void a_user_is_parked(void) {
     WANT(tg_edges_to(&store, 1, row, 4, &count) == TG_DONE && count == 1 && row[0].to == 0 && row[0].rights == TG_GRANT);
     is_refused_parking(&store, (tg_parking){ 0, 1, account }, TG_NO_SUCH_WORKER);
     WANT(tg_audit(&store, &count) == TG_DONE && count == 20 && tg_close(&store) == TG_DONE);
+}
+
+static void is_denied_unparking(tg_store *store, tg_parking parking, tg_denial wanted) {
+    is_denied_call(tg_unpark, store, parking, TG_TAKE, wanted);
+}
+
+static void is_refused_unparking(tg_store *store, tg_parking parking, tg_status status) {
+    is_refused_call(tg_unpark, store, parking, status);
+}
+
+/* A host unparks a user: the user holds what the account holds, and each command has its entry. Each denial and refusal. */
+static void a_user_is_unparked(void) {
+    const tg_edge knows[2] = { { 0, 1, TG_GRANT }, { 1, 0, TG_FREE_U } };
+    tg_store store = TG_STORE_INIT;
+    tg_target row[4] = { { UNTOUCHED, 0 }, { UNTOUCHED, 0 }, { UNTOUCHED, 0 }, { UNTOUCHED, 0 } };
+    uint64_t account, letter, user, again, count, rights;
+    is_refused_unparking(&store, (tg_parking){ 0, 1, 2 }, TG_NOT_OPEN);
+    WANT(tg_open(&store, workers, 2, knows, 2, &limits) == TG_DONE);
+    WANT(tg_create(&store, 0, TG_TAKE | TG_GRANT | TG_INSPECT, &cell, &account) == TG_DONE && account == 2);
+    WANT(tg_create(&store, 1, TG_READ | TG_WRITE, &sum, &letter) == TG_DONE && letter == 3);
+    WANT(tg_park(&store, &(tg_parking){ 0, 1, account }, &count, NULL) == TG_DONE && count == 2);
+    WANT(tg_spawn(&store, 0, TG_GRANT, &cell, &user) == TG_DONE && user == 4);
+    /* Who isn't a worker, as who was parked, and names that aren't three vertices, or over which the host hasn't the right. */
+    is_refused_unparking(&store, (tg_parking){ 0, 1, account }, TG_NO_SUCH_WORKER);
+    is_refused_unparking(&store, (tg_parking){ account, user, account }, TG_NO_SUCH_WORKER);
+    is_refused_unparking(&store, (tg_parking){ 0, UINT64_MAX, account }, TG_NO_SUCH_WORKER);
+    is_refused_unparking(&store, (tg_parking){ 99, 99, 99 }, TG_NO_SUCH_WORKER);
+    is_denied_unparking(&store, (tg_parking){ 0, 0, account }, (tg_denial){ TG_RULE_GRANT, TG_NOT_DISTINCT, 0, 0, 0 });
+    is_denied_unparking(&store, (tg_parking){ 0, user, 0 }, (tg_denial){ TG_RULE_GRANT, TG_NOT_DISTINCT, 0, 0, 0 });
+    is_denied_unparking(&store, (tg_parking){ 0, user, user }, (tg_denial){ TG_RULE_GRANT, TG_NOT_DISTINCT, 0, 0, 0 });
+    is_denied_unparking(&store, (tg_parking){ user, 0, account }, (tg_denial){ TG_RULE_GRANT, TG_MISSING, user, 0, TG_GRANT });
+    is_denied_unparking(&store, (tg_parking){ 0, user, letter }, (tg_denial){ TG_RULE_GRANT, TG_MISSING, 0, letter, TG_TAKE });
+    is_denied_unparking(&store, (tg_parking){ 0, user, UINT64_MAX }, (tg_denial){ TG_RULE_GRANT, TG_MISSING, 0, UINT64_MAX, TG_TAKE });
+    /* A user that is in use: it holds something, or the account has an edge to it. */
+    WANT(tg_grant(&store, 0, user, account, TG_INSPECT, NULL) == TG_DONE);
+    is_refused_unparking(&store, (tg_parking){ 0, user, account }, TG_IN_USE);
+    WANT(tg_remove(&store, user, account, TG_INSPECT, NULL) == TG_DONE);
+    WANT(tg_create(&store, 0, TG_TAKE | TG_GRANT, &cell, &number) == TG_DONE && number == 5);
+    WANT(tg_grant(&store, 0, number, user, TG_GRANT, NULL) == TG_DONE);
+    is_refused_unparking(&store, (tg_parking){ 0, user, number }, TG_IN_USE);
+    number = UNTOUCHED;
+    const uint64_t before = entries_of(&store);
+    WANT(tg_label(&store, user, letter, &rights) == TG_DONE && rights == 0);
+    /* It is unparked: an entry for each edge, and three more. */
+    WANT(tg_unpark(&store, &(tg_parking){ 0, user, account }, &count, NULL) == TG_DONE && count == 2 && entries_of(&store) == before + 5);
+    is_entry(&store, before, (tg_record){ .worker = 0, .deed = TG_DEED_GRANT, .via = user, .target = account, .rights = TG_TAKE });
+    is_entry(&store, before + 1, (tg_record){ .worker = user, .deed = TG_DEED_TAKE, .via = account, .target = 0, .rights = TG_FREE_U });
+    is_entry(&store, before + 2, (tg_record){ .worker = user, .deed = TG_DEED_TAKE, .via = account, .target = letter, .rights = TG_READ | TG_WRITE });
+    is_entry(&store, before + 3, (tg_record){ .worker = user, .deed = TG_DEED_REMOVE, .target = account, .rights = TG_TAKE });
+    is_entry(&store, before + 4, (tg_record){ .worker = 0, .deed = TG_DEED_REMOVE, .target = account, .rights = TG_TAKE | TG_GRANT | TG_INSPECT });
+    WANT(tg_list(&store, user, row, 4, &count) == TG_DONE && count == 2 && row[0].to == 0 && row[0].rights == TG_FREE_U);
+    WANT(row[1].to == letter && row[1].rights == (TG_READ | TG_WRITE) && row[2].to == UNTOUCHED);
+    WANT(tg_edges_to(&store, account, row, 4, &count) == TG_DONE && count == 0);
+    /* The account is used once, and the next full collection frees it. */
+    WANT(tg_spawn(&store, 0, TG_GRANT, &cell, &again) == TG_DONE);
+    is_denied_unparking(&store, (tg_parking){ 0, again, account }, (tg_denial){ TG_RULE_GRANT, TG_MISSING, 0, account, TG_TAKE });
+    WANT(tg_collect(&store, TG_FULL, &count) == TG_DONE && count == 6);
+    WANT(tg_audit(&store, &count) == TG_DONE && count == entries_of(&store) && tg_close(&store) == TG_DONE);
+}
+
+/* A user whose nursery is full gets nothing, and the account is as it was. After a collection there is room. */
+static void unparked_in_a_full_heap(void) {
+    const tg_limits small = { 1000, 20, 4 };
+    const tg_edge knows = { 0, 1, TG_GRANT };
+    tg_store store = TG_STORE_INIT;
+    uint64_t account, name, made = 0, count = UNTOUCHED, rights;
+    WANT(tg_open(&store, workers, 2, &knows, 1, &small) == TG_DONE);
+    WANT(tg_create(&store, 0, TG_TAKE | TG_GRANT, &cell, &account) == TG_DONE && account == 2);
+    for (int i = 0; i < 12; i++)
+        WANT(tg_create(&store, 0, TG_READ, &cell, &name) == TG_DONE && tg_grant(&store, 0, account, name, TG_READ, NULL) == TG_DONE);
+    while (tg_create(&store, 1, TG_READ, &cell, &name) == TG_DONE && tg_remove(&store, 1, name, TG_READ, NULL) == TG_DONE)
+        made++;
+    WANT(made > 0);
+    is_refused_unparking(&store, (tg_parking){ 0, 1, account }, TG_HEAP_FULL);
+    WANT(tg_list(&store, 1, NULL, 0, &count) == TG_DONE && count == 0);
+    WANT(tg_label(&store, 0, account, &rights) == TG_DONE && rights == (TG_TAKE | TG_GRANT));
+    WANT(tg_who_holds(&store, TG_READ, account + 1, NULL, 0, &count) == TG_DONE && count == 2);
+    WANT(tg_collect(&store, TG_FULL, &count) == TG_DONE);
+    WANT(tg_unpark(&store, &(tg_parking){ 0, 1, account }, &count, NULL) == TG_DONE && count == 12);
+    WANT(tg_audit(&store, &number) == TG_DONE && number == entries_of(&store) && tg_close(&store) == TG_DONE);
+    number = UNTOUCHED;
 }
 
 /* A user whose nursery is full is refused, and everybody holds what it held. After a collection there is room. */
@@ -1112,10 +1204,15 @@ static void longest_log(void) {
 
 static const uint64_t host[1] = { 0 };
 
-/* Whether the question is refused by this status, and the answer is as it was. */
+/* Whether the question is refused by this status, alone and after another question, and the answer is as it was. */
 static int is_unanswered(tg_store *store, const uint64_t *silent, size_t count, tg_edge supposed, uint64_t right, tg_status status) {
+    const tg_question asked[2] = { { 0, TG_READ, 1 }, { 1, right, 0 } };
     tg_answer answer = TG_ANSWER_INIT;
-    return tg_could(store, silent, count, &supposed, 1, 1, right, 0, &answer) == status && !answer.is_open && answer.handle.at == NULL;
+    uint64_t kind = UNTOUCHED, at = UNTOUCHED;
+    return tg_could(store, silent, count, &supposed, 1, 1, right, 0, &answer) == status && !answer.is_open && answer.handle.at == NULL
+        && tg_could_kind(store, silent, count, &supposed, 1, 1, right, 0, &kind) == status && kind == UNTOUCHED
+        && tg_could_any(store, silent, count, &supposed, 1, asked, 2, &at, &answer) == status && at == UNTOUCHED && !answer.is_open
+        && answer.handle.at == NULL;
 }
 
 /* Whether an answer is of this kind, with so many turns and names. */
@@ -1132,6 +1229,8 @@ static void closed_answers(void) {
     memset(&turn, UNTOUCHED, sizeof turn);
     before = turn;
     WANT(tg_could(&store, NULL, 0, NULL, 0, 0, TG_READ, 1, &answer) == TG_NOT_OPEN);
+    WANT(tg_could_kind(&store, NULL, 0, NULL, 0, 0, TG_READ, 1, &number) == TG_NOT_OPEN && is_untouched());
+    WANT(tg_could_any(&store, NULL, 0, NULL, 0, NULL, 0, &number, &answer) == TG_NOT_OPEN && is_untouched());
     WANT(tg_answer_kind(&answer, &number) == TG_NOT_OPEN && tg_answer_names(&answer, &number) == TG_NOT_OPEN);
     WANT(tg_answer_turns(&answer, &number) == TG_NOT_OPEN && is_untouched());
     WANT(tg_answer_turn(&answer, 0, &turn, NULL, 0) == TG_NOT_OPEN && memcmp(&turn, &before, sizeof turn) == 0);
@@ -1198,6 +1297,39 @@ static void questions(void) {
     WANT(tg_could(&store, NULL, 0, NULL, 0, 1, TG_WRITE, document, &answer) == TG_DONE && says(&answer, TG_UNREACHED, 0, 0));
     WANT(tg_entries(&store, &entries) == TG_DONE && entries == 2);
     WANT(tg_close(&store) == TG_DONE && says(&answer, TG_UNREACHED, 0, 0) && tg_answer_close(&answer) == TG_DONE);
+}
+
+/* Whether the kind of the answer, without the answer, is this one. */
+static int is_kind(tg_store *store, const uint64_t *silent, size_t count, uint64_t x, uint64_t right, uint64_t y, uint64_t wanted) {
+    uint64_t kind = UNTOUCHED;
+    return tg_could_kind(store, silent, count, NULL, 0, x, right, y, &kind) == TG_DONE && kind == wanted;
+}
+
+/* A policy of many questions: the first that isn't answered never is reported, with its answer. */
+static void policies(void) {
+    static const tg_edge supposed[1] = { { 1, 0, TG_TAKE } };
+    tg_store store = TG_STORE_INIT;
+    tg_answer answer = TG_ANSWER_INIT;
+    uint64_t document, at = UNTOUCHED, entries;
+    WANT(tg_open(&store, workers, 2, edges, 0, &limits) == TG_DONE);
+    WANT(tg_create(&store, 0, TG_READ | TG_WRITE, &cell, &document) == TG_DONE);
+    const tg_question asked[4] = { { 1, TG_READ, document }, { 0, TG_READ, 1 }, { 1, TG_WRITE, document }, { 0, TG_WRITE, document } };
+    WANT(tg_could_any(&store, host, 1, NULL, 0, NULL, 0, &at, &answer) == TG_DONE && at == 0 && !answer.is_open);
+    WANT(tg_could_any(&store, host, 1, NULL, 0, asked, 3, &at, &answer) == TG_DONE && at == 3 && !answer.is_open);
+    WANT(tg_could_any(&store, host, 1, NULL, 0, asked, 4, &at, &answer) == TG_DONE && at == 3 && says(&answer, TG_NOW, 0, 0));
+    at = UNTOUCHED;
+    WANT(tg_could_any(&store, host, 1, NULL, 0, asked, 4, &at, &answer) == TG_ALREADY_OPEN && at == UNTOUCHED);
+    WANT(says(&answer, TG_NOW, 0, 0) && tg_answer_close(&answer) == TG_DONE);
+    WANT(tg_could_any(&store, host, 1, supposed, 1, asked + 1, 3, &at, &answer) == TG_DONE && at == 1);
+    turns_of_one(&answer, document);
+    WANT(tg_answer_close(&answer) == TG_DONE);
+    WANT(is_kind(&store, host, 1, 1, TG_WRITE, document, TG_NEVER) && is_kind(&store, NULL, 0, 0, TG_WRITE, document, TG_NOW));
+    WANT(is_kind(&store, NULL, 0, 1, TG_READ, 3, TG_COULD));
+    /* Who isn't reached keeps what it holds, so a policy doesn't pass it. */
+    WANT(tg_retire(&store, 1) == TG_DONE && is_kind(&store, NULL, 0, 1, TG_WRITE, document, TG_UNREACHED));
+    WANT(tg_could_any(&store, host, 1, NULL, 0, asked, 3, &at, &answer) == TG_DONE && at == 0 && says(&answer, TG_UNREACHED, 0, 0));
+    WANT(tg_entries(&store, &entries) == TG_DONE && entries == 2);
+    WANT(tg_close(&store) == TG_DONE && tg_answer_close(&answer) == TG_DONE);
 }
 
 /* A name after more than 65,536 other names has no turns, because they would make all of these. The next name has some. */
@@ -1912,6 +2044,7 @@ int main(void) {
     as_many_workers_as_may_be();
     entries_read();
     questions();
+    policies();
     far_names();
     views();
     names_wanting();
@@ -1919,7 +2052,9 @@ int main(void) {
     rights_are_handed_on();
     rights_are_withdrawn();
     a_user_is_parked();
+    a_user_is_unparked();
     parked_in_a_full_heap();
+    unparked_in_a_full_heap();
     laws_are_shown();
     three_leave();
     entries_forgotten();

@@ -19,12 +19,12 @@
 /* The functions of the library, without tg_ before them. */
 #define EACH_CALL(DO) \
     DO(open) DO(close) DO(take) DO(grant) DO(remove) DO(hand) DO(write) DO(append) DO(create) DO(spawn) DO(retire) \
-    DO(leave) DO(withdraw) DO(park) DO(who_holds) DO(edges_to) DO(subjects) DO(read) DO(list) DO(inspect) DO(label) DO(law) \
+    DO(leave) DO(withdraw) DO(park) DO(unpark) DO(who_holds) DO(edges_to) DO(subjects) DO(read) DO(list) DO(inspect) DO(label) DO(law) \
     DO(law_of) DO(collect) DO(census) \
     DO(names) DO(entries) DO(first) DO(entry) DO(forget) DO(resume) DO(reopen) DO(apply_all) DO(audit) DO(auditor_open) \
     DO(auditor_feed) DO(auditor_at) DO(auditor_forget) \
     DO(auditor_sweep) DO(auditor_close) DO(auditor_snapshot) DO(auditor_reopen) DO(snapshot_text) DO(snapshot_read) \
-    DO(snapshot_close) DO(could) DO(answer_kind) DO(answer_names) DO(answer_turns) DO(answer_turn) \
+    DO(snapshot_close) DO(could) DO(could_kind) DO(could_any) DO(answer_kind) DO(answer_names) DO(answer_turns) DO(answer_turn) \
     DO(answer_close) DO(view_open) DO(view_could) DO(view_close)
 
 /* The addresses of these functions. */
@@ -168,6 +168,8 @@ PyObject *store_who_holds(PyObject *it, PyObject *const *words, Py_ssize_t count
 PyObject *store_edges_to(PyObject *it, PyObject *const *words, Py_ssize_t count);
 PyObject *store_withdraw(PyObject *it, PyObject *const *words, Py_ssize_t count);
 PyObject *store_could(PyObject *it, PyObject *const *words, Py_ssize_t count);
+PyObject *store_could_kind(PyObject *it, PyObject *const *words, Py_ssize_t count);
+PyObject *store_could_any(PyObject *it, PyObject *const *words, Py_ssize_t count);
 
 /* ---- store.c, auditor.c and view.c, the types. */
 

@@ -58,3 +58,45 @@ PyObject *store_could(PyObject *it, PyObject *const *words, Py_ssize_t count) {
     state->library.answer_close(&answer);
     return told;
 }
+
+PyObject *store_could_kind(PyObject *it, PyObject *const *words, Py_ssize_t count) {
+    struct store *self = (struct store *)it;
+    struct state *state = self->state;
+    struct scene scene;
+    uint64_t asked[3], kind = 0;
+    if (!has_words(count, 5) || !scene_of(words, &scene) || !numbers_of(state, words + 2, 3, asked, 3) || !begin_long(state))
+        return NULL;
+    tg_status status = state->library.could_kind(&self->place, scene.silent, scene.silent_count, scene.as_if, scene.as_if_count,
+                                                 asked[0], asked[1], asked[2], &kind);
+    if (!end_long(state))
+        return NULL;
+    return status == TG_DONE ? PyLong_FromUnsignedLongLong(kind) : refused(state, status, NULL, &asked[1]);
+}
+
+/* The place of the first breach with its answer, or None. */
+static PyObject *breach_told(struct state *state, uint64_t at, tg_answer *answer) {
+    if (!answer->is_open)
+        return Py_NewRef(Py_None);
+    PyObject *told = outlook_told(state, answer);
+    return told == NULL ? NULL : Py_BuildValue("(KN)", (unsigned long long)at, told);
+}
+
+PyObject *store_could_any(PyObject *it, PyObject *const *words, Py_ssize_t count) {
+    struct store *self = (struct store *)it;
+    struct state *state = self->state;
+    struct scene scene;
+    const void *questions;
+    size_t asked;
+    uint64_t at = 0;
+    tg_answer answer = TG_ANSWER_INIT;
+    if (!has_words(count, 3) || !scene_of(words, &scene) || !items_of(words[2], sizeof(tg_question), &questions, &asked) ||
+        !begin_long(state))
+        return NULL;
+    tg_status status = state->library.could_any(&self->place, scene.silent, scene.silent_count, scene.as_if, scene.as_if_count,
+                                                questions, asked, &at, &answer);
+    PyObject *told = NULL;
+    if (end_long(state))
+        told = status == TG_DONE ? breach_told(state, at, &answer) : refused(state, status, NULL, NULL);
+    state->library.answer_close(&answer);
+    return told;
+}

@@ -169,18 +169,29 @@ static PyObject *store_leave(PyObject *it, PyObject *const *words, Py_ssize_t co
     return end_long(self->state) ? counted(self->state, status, edges, &worker) : NULL;
 }
 
-/* A denied parking has the denial of the host's grant, which names the user and the account. */
-static PyObject *store_park(PyObject *it, PyObject *const *words, Py_ssize_t count) {
-    struct store *self = (struct store *)it;
+/* A call that parks a user or unparks it. A denied one has the denial of the host's grant, which names the user and the account. */
+typedef tg_status (*parking_call)(tg_store *, const tg_parking *, uint64_t *, tg_denial *);
+
+static PyObject *park_by(struct store *self, parking_call call, PyObject *const *words, Py_ssize_t count) {
     uint64_t asked[MOST_ASKED], edges = 0;
     tg_denial denial;
     if (!numbers_of(self->state, words, count, asked, 3) || !begin_long(self->state))
         return NULL;
     const tg_parking parking = { asked[0], asked[1], asked[2] };
-    tg_status status = self->state->library.park(&self->place, &parking, &edges, &denial);
+    tg_status status = call(&self->place, &parking, &edges, &denial);
     if (!end_long(self->state))
         return NULL;
     return status == TG_DENIED ? decided(self->state, status, &denial, asked, 3) : counted(self->state, status, edges, NULL);
+}
+
+static PyObject *store_park(PyObject *it, PyObject *const *words, Py_ssize_t count) {
+    struct store *self = (struct store *)it;
+    return park_by(self, self->state->library.park, words, count);
+}
+
+static PyObject *store_unpark(PyObject *it, PyObject *const *words, Py_ssize_t count) {
+    struct store *self = (struct store *)it;
+    return park_by(self, self->state->library.unpark, words, count);
 }
 
 /* ---- what has no entry */
@@ -324,9 +335,9 @@ static PyMethodDef store_methods[] = {
     WITH_WORDS(store, open) WITH_WORDS(store, take) WITH_WORDS(store, grant) WITH_WORDS(store, remove)
     WITH_WORDS(store, hand) WITH_WORDS(store, write) WITH_WORDS(store, append) WITH_WORDS(store, create) WITH_WORDS(store, spawn)
     WITH_WORDS(store, read) WITH_WORDS(store, list) WITH_WORDS(store, inspect) WITH_WORDS(store, retire)
-    WITH_WORDS(store, leave) WITH_WORDS(store, park) WITH_WORDS(store, label) WITH_WORDS(store, law) WITH_WORDS(store, law_of)
-    WITH_WORDS(store, who_holds) WITH_WORDS(store, withdraw)
-    WITH_WORDS(store, edges_to) WITH_WORDS(store, could)
+    WITH_WORDS(store, leave) WITH_WORDS(store, park) WITH_WORDS(store, unpark) WITH_WORDS(store, label) WITH_WORDS(store, law)
+    WITH_WORDS(store, law_of) WITH_WORDS(store, who_holds) WITH_WORDS(store, withdraw)
+    WITH_WORDS(store, edges_to) WITH_WORDS(store, could) WITH_WORDS(store, could_kind) WITH_WORDS(store, could_any)
     WITH_WORDS(store, collect) WITH_WORDS(store, entry) WITH_WORDS(store, forget) WITH_WORDS(store, resume)
     WITH_WORDS(store, reopen) WITH_WORDS(store, apply_all) ALONE(store, close) ALONE(store, is_open)
     ALONE(store, subjects) ALONE(store, census) ALONE(store, names) ALONE(store, entries) ALONE(store, first)

@@ -16,17 +16,17 @@ from typing import Callable, ClassVar, List, NoReturn, Optional, Sequence, Tuple
 
 from ._library import BITS, PlaceOfC, library, number_in
 from ._lock import LOCK
-from ._packed import COMMAND_SIZE, EDGE_SIZE, NUMBER_SIZE, TARGET_SIZE, VALUE_SIZE
+from ._packed import COMMAND_SIZE, EDGE_SIZE, NUMBER_SIZE, QUESTION_SIZE, TARGET_SIZE, VALUE_SIZE
 from ._refusals import RULES, BadPlace, Numbers, denied, refusal
 from ._values import MOST_NUMBERS, RIGHTS, Target
 from .journal import DEEDS, REPLIES, Edges, Inspect, Record
 from .journal import List as Listed
 
 CALLS = (
-    "abi open close take grant remove hand write append create spawn retire leave withdraw park who_holds edges_to subjects read list inspect label law law_of collect census "
+    "abi open close take grant remove hand write append create spawn retire leave withdraw park unpark who_holds edges_to subjects read list inspect label law law_of collect census "
     "names entries "
     "first entry forget resume reopen apply_all audit auditor_open auditor_feed auditor_at auditor_forget auditor_sweep auditor_close "
-    "auditor_snapshot auditor_reopen snapshot_text snapshot_read snapshot_close could answer_kind answer_names answer_turns answer_turn answer_close view_open view_could view_close"
+    "auditor_snapshot auditor_reopen snapshot_text snapshot_read snapshot_close could could_kind could_any answer_kind answer_names answer_turns answer_turn answer_close view_open view_could view_close"
 ).split()
 
 DENIED = 1
@@ -90,7 +90,7 @@ class VertexLaw(ctypes.Structure):
 
 
 class Parking(ctypes.Structure):
-    """A user whom a host parks."""
+    """A user whom a host parks or unparks."""
 
     _fields_ = [("host", Number), ("user", Number), ("account", Number)]
 
@@ -413,9 +413,16 @@ class Store(_Place):
         return self._count(library.tg_leave, worker_in, worker=worker_in.value)
 
     def park(self, host: int, user: int, account: int) -> int:
-        parking, edges, why = Parking(*_numbers(host, user, account)), Number(), Denial()
+        return self._park_by(library.tg_park, host, user, account)
+
+    def unpark(self, host: int, user: int, account: int) -> int:
+        return self._park_by(library.tg_unpark, host, user, account)
+
+    def _park_by(self, function: Function, *asked: int) -> int:
+        """Makes a call that parks a user or unparks it."""
+        parking, edges, why = Parking(*_numbers(*asked)), Number(), Denial()
         with LOCK:
-            status = library.tg_park(self._at, byref(parking), byref(edges), byref(why))
+            status = function(self._at, byref(parking), byref(edges), byref(why))
         if status == DENIED:
             raise denied(why.numbers(), (parking.host, parking.user, parking.account))
         if status:
@@ -578,6 +585,24 @@ class Store(_Place):
             raise refusal(status, right=asked[1].value)
         try:
             return answer.told()
+        finally:
+            answer.close()
+
+    def could_kind(self, silent: bytes, as_if: bytes, x: int, right: int, y: int) -> int:
+        asked = [_number(it) for it in (x, right, y)]
+        return self._count(library.tg_could_kind, *_scene(silent, as_if), *asked, right=asked[1].value)
+
+    def could_any(
+        self, silent: bytes, as_if: bytes, questions: bytes
+    ) -> Optional[Tuple[int, Tuple[int, int, List[Tuple[Record, List[int]]]]]]:
+        asked = questions, c_size_t(len(questions) // QUESTION_SIZE)
+        at, answer = Number(), _Answer()
+        with LOCK:
+            status = library.tg_could_any(self._at, *_scene(silent, as_if), *asked, byref(at), answer._at)
+        if status:
+            raise refusal(status)
+        try:
+            return (at.value, answer.told()) if answer.is_open() else None
         finally:
             answer.close()
 

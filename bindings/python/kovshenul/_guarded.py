@@ -31,12 +31,13 @@ COMMANDS = (
     "retire",
     "spawn",
     "take",
+    "unpark",
     "withdraw",
     "write",
 )
 
 # The questions, whose answers show what commands did.
-QUESTIONS = ("census", "could", "edges_to", "entries", "entry", "label", "law", "law_of", "names", "subjects", "view", "who_holds")
+QUESTIONS = ("census", "could", "could_any", "could_kind", "edges_to", "entries", "entry", "label", "law", "law_of", "names", "subjects", "view", "who_holds")
 
 
 class Guard:

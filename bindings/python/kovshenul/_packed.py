@@ -11,7 +11,7 @@ from ._values import Value
 from .journal import Deed, Entry, command_of, record_of
 
 # How many bytes a value, an edge, a number, a target and a command take.
-VALUE_SIZE, EDGE_SIZE, NUMBER_SIZE, TARGET_SIZE, COMMAND_SIZE = 16, 24, 8, 16, 40
+VALUE_SIZE, EDGE_SIZE, NUMBER_SIZE, TARGET_SIZE, COMMAND_SIZE, QUESTION_SIZE = 16, 24, 8, 16, 40, 24
 
 NO_VALUE = "a value is a Cell, a Sum, a Max or a Log"
 
@@ -24,6 +24,11 @@ def bytes_of(numbers: Iterable[int]) -> bytes:
 def edges_in(edges: Iterable[Tuple[int, int, int]]) -> bytes:
     """Edges, each of which is three numbers."""
     return b"".join([bytes_of((source, target, rights)) for source, target, rights in edges])
+
+
+def questions_in(questions: Iterable[Tuple[int, int, int]]) -> bytes:
+    """Questions, each of which is three numbers."""
+    return b"".join([bytes_of((x, right, y)) for x, right, y in questions])
 
 
 def value_in(value: Value) -> bytes:

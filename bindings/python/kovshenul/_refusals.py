@@ -151,7 +151,7 @@ class NoSuchWorker(Refused, LookupError):
 
 class InUse(Refused, ValueError):
     """The account of a parking holds some right already, or the user holds a right over it. Make a new object, over which the host alone
-    has rights."""
+    has rights. Or the user of an unparking holds some right already, or the account holds a right over it. Spawn another user."""
 
     status = 49
 

@@ -229,9 +229,9 @@ class Graph:
         """Whether a grant of x would be served."""
         return len({x, y, z}) == 3 and bool(self.label(x, y) & GRANT) and not rights & ~self.label(x, z)
 
-    def in_use(self, user: int, account: int) -> bool:
-        """Whether the account holds something, or the user holds a right over it."""
-        return bool(self.row(account)) or self.label(user, account) != 0
+    def in_use(self, giver: int, taker: int) -> bool:
+        """Whether the taker holds something, or the giver holds a right over it."""
+        return bool(self.row(taker)) or self.label(giver, taker) != 0
 
     # ---- what is asked without an entry
 

@@ -2,19 +2,20 @@
 from __future__ import annotations
 
 from itertools import count as from_on
-from typing import Iterable, Iterator, List, Optional, Set, Tuple, Type, TypeVar
+from typing import Callable, Iterable, Iterator, List, Optional, Set, Tuple, Type, TypeVar
 
 from ._backend import back_end
 from ._held import Held
 from ._library import BITS, number_in, short_of
 from ._marks import Marked
-from ._packed import bytes_of, commands_in, entry_in, limits_in, opening_in, scene_in, value_in
+from ._packed import bytes_of, commands_in, entry_in, limits_in, opening_in, questions_in, scene_in, value_in
 from ._refusals import BadPlace, Denied, NoSuchWorker, Refused, refusal
 from ._snapshot import Snapshot
 from ._values import RIGHTS, Counts, Edge, Kind, Law, Limits, Rights, Target, Value, law_told
 from ._view import View
 from .journal import Deed, Entry, Reply, entry_of
-from .outlook import Outlook, outlook_of
+from .outlook import OUTLOOKS, Breach, Outlook, outlook_of
+from .outlook import Kind as KindOf
 
 # The number of a list or an inspect that has no effect.
 ROOM = 64
@@ -203,16 +204,36 @@ class Store(Held, Marked):
         user stay, and what the user stored is lost with its vertex. Returns how many edges the user had.
 
         The account is a vertex that holds nothing, such as an object that the host has just made. The host has GRANT over the user and
-        over the account. It needs TAKE over the account too if a worker is to take everything out later. Whoever else has TAKE over the
-        account can take what it holds, so let the host alone have rights over it.
+        over the account. It needs TAKE over the account too if a worker is to take everything out later (`unpark`). Whoever else has TAKE
+        over the account can take what it holds, so let the host alone have rights over it.
 
         Each command has an entry: two for each edge, and three more. The first one is the host's grant of GRANT over the account to the
         user. If this grant is denied, its entry is the only one. It raises NoSuchWorker if the host or the user is no worker, and InUse
         if the account holds a right, or the user holds one over it. There is no entry then, and all labels are as they were.
         """
+        return self._park_by(self._place.park, host, user, account)
+
+    def unpark(self, host: int, user: int, account: int) -> int:
+        """Unparks a user. A new user takes out what an account holds (`park`), and the account is left, completely or not at all.
+        Afterwards the user holds exactly what the account holds, the host holds nothing over the account, and all other labels are as
+        they were. The account still holds what it held. If nobody but the host had a right over the account, the next full collection
+        frees it. Returns how many edges the account has.
+
+        The user is a worker that holds nothing yet, such as one that the host has just spawned. The host has GRANT over the user, and
+        TAKE over the account.
+
+        Each command has an entry: one for each edge, and three more. The first one is the host's grant of TAKE over the account to the
+        user. If this grant is denied, its entry is the only one. A second unparking of an account is denied, because the host has no
+        right over the account any more. It raises NoSuchWorker if the host or the user is no worker, and InUse if the user holds a
+        right, or the account holds one over it. There is no entry then, and all labels are as they were.
+        """
+        return self._park_by(self._place.unpark, host, user, account)
+
+    def _park_by(self, call: Callable[[int, int, int], int], host: int, user: int, account: int) -> int:
+        """Makes a call that parks a user or unparks it."""
         host, user = number_in(BITS, host), number_in(BITS, user)
         try:
-            return self._place.park(host, user, account)
+            return call(host, user, account)
         except Denied as denial:
             raise self._with_names(denial)
         except NoSuchWorker as refused:
@@ -306,6 +327,36 @@ class Store(Held, Marked):
         reaches.
         """
         return outlook_of(*self._place.could(*scene_in(self._silent(silent), as_if), x, right, y))
+
+    def could_kind(
+        self,
+        x: int,
+        right: int,
+        y: int,
+        silent: Optional[Iterable[int]] = None,
+        as_if: Iterable[Tuple[int, int, int]] = (),
+    ) -> KindOf:
+        """Answers as `could` does, and returns the type of the answer alone, such as `outlook.Never`. It takes as long as `could`, and
+        raises what `could` raises."""
+        return OUTLOOKS[self._place.could_kind(*scene_in(self._silent(silent), as_if), x, right, y)]
+
+    def could_any(
+        self,
+        questions: Iterable[Tuple[int, int, int]],
+        silent: Optional[Iterable[int]] = None,
+        as_if: Iterable[Tuple[int, int, int]] = (),
+    ) -> Optional[Breach]:
+        """Asks many questions at once, each of which is to be answered `Never`. Each is x, a right and y, as of `could`. Returns the
+        place of the first one that isn't answered `Never`, with its answer, or None if each is. So a host asks about a policy.
+
+            if store.could_any([(it, WRITE, document) for it in plugins], silent=[host]) is None:
+                print("no plugin ever holds w over the document")
+
+        A view is made once, and asked first. A question costs the time of the edges to its y if the view answers `Never`. Otherwise it
+        costs what `could` costs. Nothing is asked after the first that isn't answered `Never`. It raises what `could` raises.
+        """
+        told = self._place.could_any(*scene_in(self._silent(silent), as_if), questions_in(questions))
+        return None if told is None else Breach(told[0], outlook_of(*told[1]))
 
     def view(self, silent: Optional[Iterable[int]] = None, as_if: Iterable[Tuple[int, int, int]] = ()) -> View:
         """Opens a view of the vertices that the workers reach, in which the silent workers take no turns, as if these edges were there

@@ -13,7 +13,7 @@ Answers are values: they compare, print and can be kept, also after the store is
 from __future__ import annotations
 
 from dataclasses import dataclass
-from typing import Sequence, Tuple, Union
+from typing import Sequence, Tuple, Type, Union
 
 from .journal import Deed, Record, deed_of
 
@@ -74,11 +74,22 @@ class Perhaps:
 
 Outlook = Union[Never, Now, Could, WantsNames, Unreached, Open]
 
+# The type of an answer, which says as much as the answer without its turns.
+Kind = Type[Outlook]
+
 # The answers of a view.
 Chance = Union[Never, Unreached, Perhaps]
 
 # By their numbers.
 OUTLOOKS = {0: Never, 1: Now, 2: Could, 3: WantsNames, 4: Unreached, 5: Open, 6: Perhaps}
+
+
+@dataclass(frozen=True)
+class Breach:
+    """The first question of a list that isn't answered `Never` (`Store.could_any`): its place in the list, and its answer."""
+
+    at: int
+    answer: Outlook
 
 
 def outlook_of(number: int, names: int, turns: Sequence[Tuple[Record, Sequence[int]]]) -> Outlook:

@@ -56,7 +56,7 @@ from ._snapshot import Snapshot, Vertex
 from ._texts import end_text, opening_text
 from ._values import MOST_NUMBERS, Cell, Counts, Edge, Kind, Law, Limits, Log, Max, Rights, Sum, Target, Value
 from .journal import Create, Deed, Entry, Reply, Spawn
-from .outlook import Chance, Outlook
+from .outlook import Breach, Chance, Outlook
 
 READ, WRITE, TAKE, GRANT, APPEND, INSPECT, FREE_U, FREE_V = Rights
 FULL, NURSERY = Kind
@@ -306,6 +306,23 @@ class Store(_Held, Marked):
         self.remove(user, account, GRANT)
         return self.leave(user)
 
+    def unpark(self, host: int, user: int, account: int) -> int:
+        """The host grants the user TAKE over the account. The user takes each edge of the account, by rising name, and removes its TAKE.
+        Then the host removes all that it holds over the account. Returns how many edges these were. The user holds nothing before, and
+        the account has no edge to it."""
+        host, user, account = numbers_in(host, user, account)
+        self._must_work(host)
+        self._must_work(user)
+        row = self._graph.row(account)
+        if self._graph.may_grant(host, user, account, TAKE) and self._graph.in_use(account, user):
+            raise InUse
+        self.grant(host, user, account, TAKE)
+        for target, rights in row:
+            self.take(user, account, target, rights)
+        self.remove(user, account, TAKE)
+        self.remove(host, account, self._graph.label(host, account))
+        return len(row)
+
     def _must_work(self, worker: int) -> None:
         """The store is open, and the worker is active."""
         self._must_be_open()
@@ -381,6 +398,27 @@ class Store(_Held, Marked):
         x, right, y = numbers_in(x, right, y)
         must_be_one(right)
         return self._foresight(names, edges).answer(x, right, y)
+
+    def could_kind(
+        self, x: int, right: int, y: int, silent: Optional[Iterable[int]] = None, as_if: Iterable[Pair] = ()
+    ) -> outlook.Kind:
+        """The type of the answer of `could`."""
+        return type(self.could(x, right, y, silent, as_if))
+
+    def could_any(
+        self, questions: Iterable[Pair], silent: Optional[Iterable[int]] = None, as_if: Iterable[Pair] = ()
+    ) -> Optional[Breach]:
+        """The place of the first question that isn't answered `Never`, with its answer, or None if each is."""
+        names, edges = numbers_in(*self._silent(silent)), edges_in(as_if)
+        asked = [numbers_in(x, right, y) for x, right, y in questions]
+        for _, right, _ in asked:
+            must_be_one(right)
+        foresight = self._foresight(names, edges)
+        for at, question in enumerate(asked):
+            answer = foresight.answer(*question)
+            if answer != outlook.Never():
+                return Breach(at, answer)
+        return None
 
     def view(self, silent: Optional[Iterable[int]] = None, as_if: Iterable[Pair] = ()) -> View:
         """A view of the vertices that the workers reach at the moment."""

@@ -60,6 +60,7 @@ TAKES = {
     "retire": (1, False),
     "leave": (1, False),
     "park": (3, False),
+    "unpark": (3, False),
     "who_holds": (2, False),
     "edges_to": (1, False),
     "read": (2, False),

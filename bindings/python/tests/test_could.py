@@ -98,6 +98,8 @@ class Could(unittest.TestCase):
         self.assertEqual(chances, [self.seen(answer) for answer in answers])
         for question, answer in zip(asked, answers):
             self.assertIs(type(answer), type(drawn.model.could(*question, silent, as_if)))
+        self.assertEqual([store.could_kind(x, right, y, silent, as_if) for x, right, y in asked], [type(answer) for answer in answers])
+        self.must_break(store, asked, answers, silent, as_if)
         self.assertEqual(store.entries(), entries)
         for kind in (NURSERY, FULL):
             store.collect(kind)
@@ -105,6 +107,15 @@ class Could(unittest.TestCase):
             with store.view(silent, as_if) as view:
                 self.assertEqual([view.could(x, right, y) for x, right, y in asked], chances)
         return {type(answer) for answer in answers}
+
+    def must_break(self, store, asked, answers, silent, as_if):
+        """Each breach of a policy is the first question from there on that isn't answered never."""
+        first = 0
+        while first <= len(asked):
+            breach = store.could_any(asked[first:], silent, as_if)
+            more = [at for at in range(first, len(asked)) if answers[at] != outlook.Never()]
+            self.assertEqual(breach, outlook.Breach(more[0] - first, answers[more[0]]) if more else None)
+            first = more[0] + 1 if more else len(asked) + 1
 
     def seen(self, answer):
         """The answer of a view to a question that has this answer."""
@@ -209,9 +220,18 @@ class Could(unittest.TestCase):
         self.assertRaises(OverflowError, store.could, -1, READ, 1)
         self.assertRaises(OverflowError, store.could, 0, READ, 1, [2**64])
         self.assertRaises(TypeError, store.could, 0, READ, "1")
+        for right, scene, refusal in ((0, (), BadRights), (READ, ((), [(0, 1, 0)]), BadRights), (READ, ([2],), NoSuchWorker), (READ, ([], [(0, 0, READ)]), BadEdge)):
+            self.assertRaises(refusal, store.could_kind, 0, right, 1, *scene)
+            self.assertRaises(refusal, store.could_any, [(0, READ, 1), (0, right, 1)], *scene)
+        self.assertRaises(OverflowError, store.could_any, [(0, READ, -1)])
+        self.assertRaises(TypeError, store.could_any, [(0, READ, "1")])
+        self.assertRaises(ValueError, store.could_any, [(0, READ)])
+        self.assertIsNone(store.could_any([]))
         self.assertEqual(store.entries(), entries)
         store.close()
         self.assertRaises(NotOpen, store.could, 0, READ, 1)
+        self.assertRaises(NotOpen, store.could_kind, 0, READ, 1)
+        self.assertRaises(NotOpen, store.could_any, [])
         self.assertRaises(BadRights, store.could, 0, 0, 1)
 
 

@@ -392,6 +392,7 @@ class Cases:
             "retire": (0,),
             "leave": (0,),
             "park": (0, 1, note),
+            "unpark": (0, 1, note),
             "list": (0,),
             "inspect": (0, note),
             "apply_all": (0, [journal.List()]),

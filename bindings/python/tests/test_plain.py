@@ -59,7 +59,7 @@ NUMBERS = (0, 1, 7, 40, 2**63, 2**64 - 1)
 VALUES = (Cell(3), Sum(40), Sum(2**64 - 1), Max(9), Log(1), Log(2), Log(2))
 MAKING, MOVING = ("create", "spawn"), ("take", "grant", "hand")
 TOUCHING = ("read", "write", "append", "inspect", "label", "law", "law_of", "who_holds", "withdraw")
-COMMANDS = (*MAKING, "create", *MOVING * 3, *TOUCHING, "append", "append", "remove", "list", "park")
+COMMANDS = (*MAKING, "create", *MOVING * 3, *TOUCHING, "append", "append", "remove", "list", "park", "unpark")
 RARE = ("retire", "leave", "wrong", "look_back")
 
 
@@ -119,6 +119,8 @@ class Draw:
             command = "spawn"
         if command == "park":
             return command, *self.parking(graph)
+        if command == "unpark":
+            return command, *self.unparking(graph)
         if command in MAKING:
             return command, x, self.rights() | (TAKE | GRANT if self.rng.random() < 0.5 else 0), self.rng.choice(VALUES)
         if command in MOVING:
@@ -153,6 +155,19 @@ class Draw:
         empty = [y for y in accounts if y != user and not graph.row(y) and not graph.label(user, y)]
         drawn = self.rng.random()
         return host, user, self.rng.choice(empty if empty and drawn < 0.5 else accounts) if drawn < 0.9 else self.name(graph)
+
+    def unparking(self, graph):
+        """A host, a user and an account. Mostly the host has g over the user and t over the account, and mostly the user holds nothing."""
+        known = [(x, graph.row(x)) for x in graph.subjects[-6:]]
+        pairs = [(host, user, row) for host, row in known for user, rights in row if rights & GRANT and user in graph.subjects]
+        if not pairs or self.rng.random() < 0.1:
+            return [self.name(graph) for _ in range(3)]
+        unused = [it for it in pairs if not graph.row(it[1])]
+        host, user, row = self.rng.choice(unused if unused and self.rng.random() < 0.8 else pairs)
+        accounts = [y for y, rights in row if rights & TAKE and y != user]
+        filled = [y for y in accounts if graph.row(y)]
+        accounts = filled if filled and self.rng.random() < 0.7 else accounts
+        return host, user, self.rng.choice(accounts) if accounts and self.rng.random() < 0.9 else self.name(graph)
 
     def wrong(self, graph, x):
         """A call that is refused for what it is asked."""
@@ -214,11 +229,14 @@ class Run:
         made = self.model._graph.made
         if made > SMALL:
             return
-        scene, ends = self.draw.scene(self.model._graph), range(made + 2)
+        scene, ends, asked = self.draw.scene(self.model._graph), range(made + 2), []
         for _ in range(QUESTIONS):
             x, right, y = self.draw.rng.choice(ends), self.draw.rng.choice([READ, TAKE, GRANT]), self.draw.rng.choice(ends)
             told, wanted = (outcome(it.could, x, right, y, *scene) for it in (self.store, self.model))
             self.must_equal(kind_of(told), kind_of(wanted), "could", (x, right, y, *scene))
+            asked.append((x, right, y))
+        told, wanted = (outcome(it.could_any, asked, *scene) for it in (self.store, self.model))
+        self.must_equal(breach_of(told), breach_of(wanted), "could_any", (asked, *scene))
         self.ask_views(scene, ends)
 
     def ask_views(self, scene, ends):
@@ -234,6 +252,11 @@ class Run:
 def kind_of(answer):
     """An answer without its turns, which are each side's own."""
     return "could" if isinstance(answer, COULD) else answer
+
+
+def breach_of(breach):
+    """The place of a breach, and its answer without its turns. Or another outcome, as it is."""
+    return (breach.at, kind_of(breach.answer)) if isinstance(breach, outlook.Breach) else breach
 
 
 def run(seed, store_kind=Store):
@@ -420,9 +443,9 @@ class Surface(unittest.TestCase):
             it.close()
             self.assertRaises(NotOpen, it.__enter__)
         self.assertRaises(NotOpen, view.could, 0, READ, 1)
-        calls = [("read", 0, 1), ("list", 0), ("create", 0, READ, Cell(0)), ("leave", 0), ("park", 0, 1, 2), ("label", 0, 1), ("subjects",)]
+        calls = [("read", 0, 1), ("list", 0), ("create", 0, READ, Cell(0)), ("leave", 0), ("park", 0, 1, 2), ("unpark", 0, 1, 2), ("label", 0, 1), ("subjects",)]
         calls += [("law", 0, 1), ("law_of", 0)]
-        calls += [("hand", 0, 1, 1, 0, READ), ("withdraw", 1, READ), ("who_holds", READ, 1), ("edges_to", 1), ("could", 0, READ, 1), ("view",), ("collect",), ("names",), ("census",)]
+        calls += [("hand", 0, 1, 1, 0, READ), ("withdraw", 1, READ), ("who_holds", READ, 1), ("edges_to", 1), ("could", 0, READ, 1), ("could_kind", 0, READ, 1), ("could_any", []), ("view",), ("collect",), ("names",), ("census",)]
         calls += [("entries",), ("entry", 0), ("forget", 0), ("audit",), ("go_on", 0, [kovshenul.journal.Entry(0, kovshenul.journal.List(), kovshenul.journal.Done())])]
         for call, *arguments in calls:
             self.assertRaises(NotOpen, getattr(model, call), *arguments)
@@ -470,8 +493,8 @@ WRONG_RULES = {
     "a law is shown to who has r alone": (Graph.law, "(READ | WRITE | APPEND)", "READ"),
     "a law is shown to all": (Graph.law, "(READ | WRITE | APPEND)", "ALL_RIGHTS"),
     "a law of what nobody reaches": (Graph.law_of, "y in self.reached()", "y < self.made"),
-    "an account that the user has an edge to": (Graph.in_use, " or self.label(user, account) != 0", ""),
-    "an account that holds something": (Graph.in_use, "bool(self.row(account)) or ", ""),
+    "an account that the user has an edge to": (Graph.in_use, " or self.label(giver, taker) != 0", ""),
+    "an account or a user that holds something": (Graph.in_use, "bool(self.row(taker)) or ", ""),
     "an account over which the host lacks g": (Graph.may_grant, "rights & ~self.label(x, z)", "0"),
     "the silent ones act": (Future.__init__, "if x not in {*silent}", ""),
     "nobody grants": (Future.move_all, '"grant"', '"take"'),
@@ -507,6 +530,16 @@ def parked_in_words(it, host, user, account):
     return len(row), it
 
 
+def taken_in_words(it, host, user, account):
+    """The commands of an unparking up to the host's remove. Returns how many edges the account has."""
+    row = [(edge.target, edge.rights) for y in sorted(it.names()) for edge in it.edges_to(y) if edge.source == account]
+    Store.grant(it, host, user, account, TAKE)
+    for target, rights in row:
+        Store.take(it, user, account, target, rights)
+    Store.remove(it, user, account, TAKE)
+    return len(row)
+
+
 # Wrong rules of the store: which call of it, and what it does then.
 WRONG_STORES = {
     "a take has r too": ("take", lambda it, x, y, z, rights: Store.take(it, x, y, z, rights | READ)),
@@ -524,6 +557,12 @@ WRONG_STORES = {
     "a user is parked without its edges": ("park", lambda it, host, user, account: Store.leave(it, user)),
     "a user who is parked doesn't leave": ("park", lambda it, host, user, account: parked_in_words(it, host, user, account)[0]),
     "an account in use is taken": ("park", lambda it, host, user, account: parked_in_words(it, host, user, account) and Store.leave(it, user)),
+    "a user is unparked with nothing": ("unpark", lambda it, host, user, account: Store.grant(it, host, user, account, TAKE) or 0),
+    "the host keeps the account": ("unpark", lambda it, host, user, account: taken_in_words(it, host, user, account)),
+    "who holds something is unparked": (
+        "unpark",
+        lambda it, host, user, account: [taken_in_words(it, host, user, account), Store.remove(it, host, account, it.label(host, account))][0],
+    ),
     "a law is shown to the worker that hasn't it": ("law", lambda it, x, y: Store.label(it, x, y) and Store.law_of(it, y)),
     "the law of a log keeps 64": ("law_of", lambda it, y: (law := Store.law_of(it, y)) and law._replace(most=64 * (law.kind is Log))),
     "a withdrawal keeps nobody": ("withdraw", lambda it, y, rights, keep: Store.withdraw(it, y, rights)),

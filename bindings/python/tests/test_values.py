@@ -161,8 +161,8 @@ class BackEnds(unittest.TestCase):
             calls += [(store.hand, 0, 1, 1, 1, 1), (Store.reopen, auditor.snapshot(), LIMITS)]
             calls += [(store.write, 0, 1, 1), (store.append, 0, 1, 1), (store.create, 0, 1, Cell(0)), (store.spawn, 0, 1, Cell(0))]
             calls += [(store.list, 0), (store.inspect, 0, 1), (store.retire, 0), (store.leave, 0), (store.label, 0, 1)]
-            calls += [(store.park, 0, 1, 2), (store.law, 0, 1), (store.law_of, 1)]
-            calls += [(store.who_holds, 1, 1), (store.withdraw, 1, 1), (store.edges_to, 1), (store.could, 0, 1, 1), (store.view,), (store.collect,), (store.census,)]
+            calls += [(store.park, 0, 1, 2), (store.unpark, 0, 1, 2), (store.law, 0, 1), (store.law_of, 1)]
+            calls += [(store.who_holds, 1, 1), (store.withdraw, 1, 1), (store.edges_to, 1), (store.could, 0, 1, 1), (store.could_kind, 0, 1, 1), (store.could_any, []), (store.view,), (store.collect,), (store.census,)]
             calls += [(it,) for it in (store.names, store.subjects, store.entries, store.first, store.audit)]
             calls += [(store.entry, 0), (store.forget, 0), (auditor.feed, store), (auditor.forget, store, 0), (auditor.sweep,)]
             calls += [(view.could, 0, 1, 1), (lambda: auditor.at,), (Store, [Cell(0)]), (Auditor, [Cell(0)])]
@@ -178,7 +178,7 @@ class BackEnds(unittest.TestCase):
         store, auditor, view = places
         for place in places:
             self.assertRaises(TypeError, place.open)
-        calls = [(store.park, 1, 2), (store.law, 1), (store.law_of,), (store.take, 1, 2, 3), (store.hand, 1, 2, 3, 4), (store.reopen, b""), (store.read,), (store.list, 1), (store.could, b"", b"", 1, 2), (auditor.feed, None)]
+        calls = [(store.park, 1, 2), (store.unpark, 1, 2), (store.law, 1), (store.law_of,), (store.take, 1, 2, 3), (store.hand, 1, 2, 3, 4), (store.reopen, b""), (store.read,), (store.list, 1), (store.could, b"", b"", 1, 2), (store.could_kind, b"", b"", 1, 2), (store.could_any, b"", b""), (auditor.feed, None)]
         calls += [(auditor.forget, store), (view.could, 1, 2), (view.open, auditor, b"", b""), (view.open, store, b"", "")]
         for call, *words in calls:
             self.assertRaises(TypeError, call, *words)
@@ -521,6 +521,50 @@ class Stores(unittest.TestCase):
             account = store.create(0, GRANT, Cell(0))
             self.assertEqual((store.park(0, 1, account), store.entries()), (0, 4))
             self.assertEqual((store.collect(), store.law_of(1)), (3, Law(Cell)))
+
+    def test_users_are_unparked(self):
+        with Store([Cell(0)]) as store:
+            parked = store.spawn(0, GRANT, Cell(0))
+            letters = [store.create(parked, READ | WRITE, Cell(7)) for _ in range(3)]
+            account = store.create(0, TAKE | GRANT | INSPECT, Cell(0))
+            store.park(0, parked, account)
+            user = store.spawn(0, GRANT, Cell(0))
+            store.set_name(account, "account")
+            denials = {
+                (0, 0, account): f"grant: two vertices that must differ are one (0, 0, account ({account}))",
+                (0, user, user): f"grant: two vertices that must differ are one (0, {user}, {user})",
+                (0, user, 999): "grant: t is missing on 0->999",
+                (user, 0, account): f"grant: g is missing on {user}->0",
+            }
+            for words, text in denials.items():
+                with self.assertRaises(Denied) as denied:
+                    store.unpark(*words)
+                self.assertEqual(str(denied.exception), text)
+            for words, missing in {(0, parked, account): parked, (999, user, account): 999, (0, account, user): account}.items():
+                with self.assertRaises(NoSuchWorker) as refused:
+                    store.unpark(*words)
+                self.assertEqual(str(refused.exception), f"no such worker: no active subject has the name {missing}")
+            store.grant(0, user, account, INSPECT)
+            self.assertRaises(kovshenul.InUse, store.unpark, 0, user, account)
+            store.remove(user, account, INSPECT)
+            before = store.entries()
+            self.assertEqual(store.unpark(0, user, account), 3)
+            taken = [f"{user} take {account} {letter} rw = ok" for letter in letters]
+            left = [f"{user} remove {account} t = ok", f"0 remove {account} tgl = ok"]
+            self.assertEqual([str(entry) for entry in [*store.journal()][before:]], [f"0 grant {user} {account} t = ok", *taken, *left])
+            self.assertEqual([(edge.to, edge.rights) for edge in store.list(user)], [(letter, READ | WRITE) for letter in letters])
+            self.assertEqual((store.label(0, account), store.edges_to(account)), (0, []))
+            again = store.spawn(0, GRANT, Cell(0))
+            self.assertRaisesRegex(Denied, f"grant: t is missing on 0->account", store.unpark, 0, again, account)
+            store.collect()
+            self.assertNotIn(account, store.names())
+            self.assertEqual(store.audit(), store.entries())
+
+    def test_an_account_without_edges_is_left(self):
+        with opened() as store:
+            account = store.create(0, TAKE, Cell(0))
+            self.assertEqual((store.unpark(0, 1, account), store.entries()), (0, 4))
+            self.assertEqual((store.list(1), store.label(0, account)), ([], 0))
 
     def test_laws_are_shown(self):
         with opened() as store:

@@ -1,6 +1,6 @@
 //! Questions about the future.
 use crate::error::served;
-use crate::raw::{self, RawAnswer, RawEdge, RawRecord};
+use crate::raw::{self, RawAnswer, RawEdge, RawQuestion, RawRecord};
 use crate::store::MOST_NUMBERS;
 use crate::{Deed, Edge, Error, Rights, Silent, Store};
 use std::ptr::null_mut;
@@ -109,6 +109,147 @@ impl Store {
             )
         })?;
         answer.told()
+    }
+}
+
+/// The kind of an answer, which says as much as the answer without its turns ([`Store::could_kind`]).
+#[derive(Clone, Copy, PartialEq, Eq, Hash, Debug)]
+#[non_exhaustive]
+pub enum CouldKind {
+    /// As [`Could::Never`].
+    Never,
+    /// As [`Could::Now`].
+    Now,
+    /// As [`Could::After`].
+    After,
+    /// As [`Could::WantsNames`].
+    WantsNames,
+    /// As [`Could::Unreached`].
+    Unreached,
+    /// As [`Could::Open`].
+    Open,
+}
+
+/// The question whether x could ever come to hold the right over y ([`Store::could_any`]).
+#[derive(Clone, Copy, PartialEq, Eq, Hash, Debug)]
+pub struct Question {
+    /// The vertex that could come to hold the right.
+    pub x: u64,
+    /// One right.
+    pub right: Rights,
+    /// The vertex that the right is over.
+    pub y: u64,
+}
+
+/// The first question of a list that isn't answered [`Could::Never`] ([`Store::could_any`]).
+#[derive(Clone, PartialEq, Eq, Hash, Debug)]
+pub struct Breach {
+    /// The place of the question in the list.
+    pub at: usize,
+    /// The answer to it.
+    pub answer: Could,
+}
+
+impl Store {
+    /// Answers as [`could`](Store::could) does, and returns the kind of the answer alone. It takes as long as `could`, and is
+    /// refused as `could` is.
+    ///
+    /// ```
+    /// # use kovshenul::{CouldKind, Error, Limits, Rights, Store, Value};
+    /// # let mut store = Store::open(&[Value::Cell(0)], &[], &Limits::default())?;
+    /// let document = store.create(0, Rights::READ, Value::Cell(7))?;
+    /// let plugin = store.spawn(0, Rights::GRANT, Value::Cell(0))?;
+    /// assert_eq!(store.could_kind(plugin, Rights::READ, document, &[0], &[])?, CouldKind::Never);
+    /// assert_eq!(store.could_kind(plugin, Rights::READ, document, &[], &[])?, CouldKind::After);
+    /// # Ok::<(), Error>(())
+    /// ```
+    pub fn could_kind<'a>(
+        &self,
+        x: u64,
+        right: Rights,
+        y: u64,
+        silent: impl Into<Silent<'a>>,
+        as_if: &[Edge],
+    ) -> Result<CouldKind, Error> {
+        let silent = self.silent(silent.into())?;
+        let edges: Vec<RawEdge> = as_if.iter().map(RawEdge::from).collect();
+        let mut kind = 0;
+        served(unsafe {
+            raw::tg_could_kind(
+                self.at(),
+                silent.as_ptr(),
+                silent.len(),
+                edges.as_ptr(),
+                edges.len(),
+                x,
+                right.bits(),
+                y,
+                &mut kind,
+            )
+        })?;
+        Ok(match kind {
+            raw::NEVER => CouldKind::Never,
+            raw::NOW => CouldKind::Now,
+            raw::COULD => CouldKind::After,
+            raw::WANTS_NAMES => CouldKind::WantsNames,
+            raw::UNREACHED => CouldKind::Unreached,
+            raw::OPEN => CouldKind::Open,
+            kind => unreachable!("interface {} has no answer {kind}", raw::ABI),
+        })
+    }
+
+    /// Asks many questions at once, each of which is to be answered [`Never`](Could::Never). Returns the place of the first
+    /// question that isn't, with its answer, or `None` if each is. So a host asks about a policy.
+    ///
+    /// A view is made once, and asked first. A question costs the time of the edges to its y if the view answers `Never`.
+    /// Otherwise it costs what [`could`](Store::could) costs. Nothing is asked after the first question that isn't answered
+    /// `Never`. It is refused as `could` is.
+    ///
+    /// ```
+    /// # use kovshenul::{Breach, Could, Error, Limits, Question, Rights, Store, Value};
+    /// # let mut store = Store::open(&[Value::Cell(0)], &[], &Limits::default())?;
+    /// let document = store.create(0, Rights::READ, Value::Cell(7))?;
+    /// let plugin = store.spawn(0, Rights::GRANT, Value::Cell(0))?;
+    /// let policy = [Rights::WRITE, Rights::READ].map(|right| Question { x: plugin, right, y: document });
+    /// assert_eq!(store.could_any(&policy, &[0], &[])?, None);
+    /// store.grant(0, plugin, document, Rights::READ)?;
+    /// assert_eq!(store.could_any(&policy, &[0], &[])?, Some(Breach { at: 1, answer: Could::Now }));
+    /// # Ok::<(), Error>(())
+    /// ```
+    pub fn could_any<'a>(
+        &self,
+        questions: &[Question],
+        silent: impl Into<Silent<'a>>,
+        as_if: &[Edge],
+    ) -> Result<Option<Breach>, Error> {
+        let silent = self.silent(silent.into())?;
+        let edges: Vec<RawEdge> = as_if.iter().map(RawEdge::from).collect();
+        let asked: Vec<RawQuestion> = questions.iter().map(RawQuestion::from).collect();
+        let mut at = 0;
+        let mut answer = Answer(RawAnswer {
+            is_open: false,
+            at: null_mut(),
+        });
+        served(unsafe {
+            raw::tg_could_any(
+                self.at(),
+                silent.as_ptr(),
+                silent.len(),
+                edges.as_ptr(),
+                edges.len(),
+                asked.as_ptr(),
+                asked.len(),
+                &mut at,
+                &mut answer.0,
+            )
+        })?;
+        if !answer.0.is_open {
+            return Ok(None);
+        }
+        Ok(Some(Breach {
+            at: at as usize,
+            answer: answer.told()?,
+        }))
     }
 }
 

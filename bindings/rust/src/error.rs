@@ -149,7 +149,8 @@ pub enum Error {
     WorkersFull,
     /// No active worker has the name. It was never spawned, it is an object, or it retired.
     NoSuchWorker,
-    /// The account of a parking holds some right already, or the user holds a right over it.
+    /// The account of a parking holds some right already, or the user holds a right over it. Or the user of an unparking holds
+    /// some right already, or the account holds a right over it.
     InUse,
     /// No right; several rights, where one is asked about.
     BadRights,

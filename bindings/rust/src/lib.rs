@@ -35,7 +35,7 @@ mod view;
 
 pub use auditor::Auditor;
 pub use batch::BatchStopped;
-pub use could::{Could, Turn};
+pub use could::{Breach, Could, CouldKind, Question, Turn};
 pub use error::{Denial, Error, Rule};
 pub use journal::{Deed, Entry, Journal, Reply};
 pub use marks::{Named, Silent};

@@ -1,5 +1,5 @@
 //! The library's own functions, as `kovshenul.h` has them.
-use crate::{Counts, Edge, Hand, Law, Limits, Parking, Value};
+use crate::{Counts, Edge, Hand, Law, Limits, Parking, Question, Value};
 use std::ffi::c_void;
 use std::os::raw::c_char;
 
@@ -141,6 +141,23 @@ impl From<&Edge> for RawEdge {
 }
 
 #[repr(C)]
+pub struct RawQuestion {
+    x: u64,
+    right: u64,
+    y: u64,
+}
+
+impl From<&Question> for RawQuestion {
+    fn from(question: &Question) -> RawQuestion {
+        RawQuestion {
+            x: question.x,
+            right: question.right.bits(),
+            y: question.y,
+        }
+    }
+}
+
+#[repr(C)]
 pub struct RawHanding {
     via: u64,
     from: u64,
@@ -236,6 +253,7 @@ extern "C" {
     pub fn tg_remove(store: *mut RawStore, worker: u64, target: u64, rights: u64, why: &mut RawDenial) -> u32;
     pub fn tg_hand(store: *mut RawStore, handing: &RawHanding, removed: &mut u64, why: &mut RawDenial) -> u32;
     pub fn tg_park(store: *mut RawStore, parking: &Parking, edges: &mut u64, why: &mut RawDenial) -> u32;
+    pub fn tg_unpark(store: *mut RawStore, parking: &Parking, edges: &mut u64, why: &mut RawDenial) -> u32;
     pub fn tg_write(store: *mut RawStore, worker: u64, target: u64, value: u64, why: &mut RawDenial) -> u32;
     pub fn tg_append(store: *mut RawStore, worker: u64, target: u64, value: u64, why: &mut RawDenial) -> u32;
     pub fn tg_create(store: *mut RawStore, worker: u64, rights: u64, value: &RawValue, name: &mut u64) -> u32;
@@ -342,6 +360,28 @@ extern "C" {
         x: u64,
         right: u64,
         y: u64,
+        answer: &mut RawAnswer,
+    ) -> u32;
+    pub fn tg_could_kind(
+        store: *mut RawStore,
+        silent: *const u64,
+        silent_count: usize,
+        as_if: *const RawEdge,
+        as_if_count: usize,
+        x: u64,
+        right: u64,
+        y: u64,
+        kind: &mut u64,
+    ) -> u32;
+    pub fn tg_could_any(
+        store: *mut RawStore,
+        silent: *const u64,
+        silent_count: usize,
+        as_if: *const RawEdge,
+        as_if_count: usize,
+        questions: *const RawQuestion,
+        count: usize,
+        at: &mut u64,
         answer: &mut RawAnswer,
     ) -> u32;
     pub fn tg_answer_kind(answer: &mut RawAnswer, kind: &mut u64) -> u32;

@@ -193,8 +193,8 @@ impl Store {
     /// Edges to the user stay, and what the user stored is lost with its vertex. Returns how many edges the user had.
     ///
     /// The account is a vertex that holds nothing, such as an object that the host has just made. The host has `g` over the user
-    /// and over the account. It needs `t` over the account too if a worker is to take everything out later. Whoever else has `t`
-    /// over the account can take what it holds, so let the host alone have rights over it.
+    /// and over the account. It needs `t` over the account too if a worker is to take everything out later ([`Store::unpark`]).
+    /// Whoever else has `t` over the account can take what it holds, so let the host alone have rights over it.
     ///
     /// Each command has an entry: two for each edge, and three more. The first one is the host's grant of `g` over the account to
     /// the user. If this grant is denied, its entry is the only one. It is [`NoSuchWorker`](Error::NoSuchWorker) exactly if the host
@@ -209,15 +209,44 @@ impl Store {
     /// let account = store.create(0, Rights::TAKE | Rights::GRANT, Value::Cell(0))?;
     /// assert_eq!(store.park(&Parking { host: 0, user, account })?, 1);
     /// assert_eq!(store.who_holds(Rights::READ, letter)?, [account]);
-    /// let user = store.spawn(0, Rights::GRANT, Value::Cell(0))?;
-    /// store.grant(0, user, account, Rights::TAKE)?;
-    /// store.take(user, account, letter, Rights::READ)?;
-    /// assert_eq!(store.read(user, letter)?, [7]);
     /// # Ok::<(), Error>(())
     /// ```
     pub fn park(&mut self, parking: &Parking) -> Result<u64, Error> {
         let (mut edges, mut why) = (0, RawDenial::default());
         let status = unsafe { raw::tg_park(self.at(), parking, &mut edges, &mut why) };
+        decided(status, &why)?;
+        Ok(edges)
+    }
+
+    /// Unparks a user. A new user takes out what an account holds ([`Store::park`]), and the account is left, completely or not at
+    /// all. Afterwards the user holds exactly what the account holds, the host holds nothing over the account, and all other labels
+    /// are as they were. The account still holds what it held. If nobody but the host had a right over the account, the next full
+    /// collection frees it. Returns how many edges the account has.
+    ///
+    /// The user is a worker that holds nothing yet, such as one that the host has just spawned. The host has `g` over the user, and
+    /// `t` over the account.
+    ///
+    /// Each command has an entry: one for each edge, and three more. The first one is the host's grant of `t` over the account to
+    /// the user. If this grant is denied, its entry is the only one. A second unparking of an account is denied, because the host
+    /// has no right over the account any more. It is [`NoSuchWorker`](Error::NoSuchWorker) exactly if the host or the user is no
+    /// worker, and [`InUse`](Error::InUse) only if the user holds a right, or the account holds one over it. After a refusal there
+    /// is no entry, and all labels, values and workers are as they were.
+    ///
+    /// ```
+    /// # use kovshenul::{Error, Limits, Parking, Rights, Store, Value};
+    /// # let mut store = Store::open(&[Value::Cell(0)], &[], &Limits::default())?;
+    /// let user = store.spawn(0, Rights::GRANT, Value::Cell(0))?;
+    /// let letter = store.create(user, Rights::READ, Value::Cell(7))?;
+    /// let account = store.create(0, Rights::TAKE | Rights::GRANT, Value::Cell(0))?;
+    /// store.park(&Parking { host: 0, user, account })?;
+    /// let user = store.spawn(0, Rights::GRANT, Value::Cell(0))?;
+    /// assert_eq!(store.unpark(&Parking { host: 0, user, account })?, 1);
+    /// assert_eq!((store.read(user, letter)?, store.label(0, account)?), (vec![7], Rights::NONE));
+    /// # Ok::<(), Error>(())
+    /// ```
+    pub fn unpark(&mut self, parking: &Parking) -> Result<u64, Error> {
+        let (mut edges, mut why) = (0, RawDenial::default());
+        let status = unsafe { raw::tg_unpark(self.at(), parking, &mut edges, &mut why) };
         decided(status, &why)?;
         Ok(edges)
     }

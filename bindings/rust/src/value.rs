@@ -56,15 +56,15 @@ pub struct Hand {
     pub rights: Rights,
 }
 
-/// A user whom a host parks ([`Store::park`](crate::Store::park)).
+/// A user whom a host parks ([`Store::park`](crate::Store::park)) or unparks ([`Store::unpark`](crate::Store::unpark)).
 #[repr(C)]
 #[derive(Clone, Copy, PartialEq, Eq, Hash, Debug)]
 pub struct Parking {
-    /// The worker that holds `g` over the user and over the account.
+    /// The worker that holds `g` over the user. Over the account it holds `g` to park, and `t` to unpark.
     pub host: u64,
-    /// The worker that leaves.
+    /// The worker that leaves, or that gets what the account holds.
     pub user: u64,
-    /// The vertex that is to hold what the user holds.
+    /// The vertex that is to hold what the user holds, or that holds it.
     pub account: u64,
 }
 

@@ -1,6 +1,6 @@
 //! Questions about the future. Their answers hold before a collection and after it, and by their turns the
 //! right comes about.
-use kovshenul::{Chance, Could, Deed, Edge, Error, Kind, Limits, Rights, Store, Turn, Value};
+use kovshenul::{Breach, Chance, Could, CouldKind, Deed, Edge, Error, Kind, Limits, Question, Rights, Store, Turn, Value};
 
 fn opened(workers: usize, edges: &[Edge], max_vertices: u64) -> Store {
     let limits = Limits {
@@ -83,6 +83,27 @@ fn what_is_refused() {
     assert_eq!(ask(Rights::READ, &[2], &[]), Error::NoSuchWorker);
     assert_eq!(ask(Rights::READ, &[], &[edge(1, 1, Rights::READ)]), Error::BadEdge);
     assert_eq!(ask(Rights::READ, &[], &[edge(0, 2, Rights::READ)]), Error::BadEdge);
+}
+
+#[test]
+fn policies_are_kept_or_broken() {
+    let mut store = opened(2, &[edge(0, 1, Rights::GRANT)], 100);
+    let document = store.create(0, Rights::READ | Rights::WRITE, Value::Cell(0)).unwrap();
+    let asked = [(1, Rights::READ, document), (0, Rights::READ, 1), (0, Rights::WRITE, document)].map(|(x, right, y)| Question { x, right, y });
+    assert_eq!(store.could_any(&[], &[0], &[]), Ok(None));
+    assert_eq!(store.could_any(&asked[..2], &[0], &[]), Ok(None));
+    assert_eq!(store.could_any(&asked, &[0], &[]), Ok(Some(Breach { at: 2, answer: Could::Now })));
+    let supposed = [edge(1, 0, Rights::TAKE)];
+    let breach = store.could_any(&asked, &[0], &supposed).unwrap().unwrap();
+    assert!(breach.at == 0 && matches!(breach.answer, Could::After(_)) && breach.answer.turns().len() > 0);
+    let kinds = [&[0_u64][..], &[]].map(|silent| store.could_kind(1, Rights::WRITE, document, silent, &[]).unwrap());
+    assert_eq!(kinds, [CouldKind::Never, CouldKind::After]);
+    assert_eq!(store.could_kind(0, Rights::READ, document, &[], &[]), Ok(CouldKind::Now));
+    let wrong = Question { right: Rights::NONE, ..asked[0] };
+    assert_eq!(store.could_any(&[asked[0], wrong], &[], &[]), Err(Error::BadRights));
+    assert_eq!(store.could_any(&asked, &[2], &[]), Err(Error::NoSuchWorker));
+    assert_eq!(store.could_kind(0, Rights::READ, 1, &[], &[edge(1, 1, Rights::READ)]), Err(Error::BadEdge));
+    assert_eq!(store.entries(), Ok(1));
 }
 
 // A view answers each question as the store does, as of the moment when it was opened.

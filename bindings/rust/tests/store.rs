@@ -239,6 +239,34 @@ fn users_are_parked() {
 }
 
 #[test]
+fn users_are_unparked() {
+    let mut store = opened(1);
+    let parked = store.spawn(0, Rights::GRANT, Value::Cell(0)).unwrap();
+    let letters: Vec<u64> = (0..3).map(|_| store.create(parked, Rights::READ | Rights::WRITE, Value::Cell(7)).unwrap()).collect();
+    let account = store.create(0, Rights::TAKE | Rights::GRANT | Rights::INSPECT, Value::Cell(0)).unwrap();
+    store.park(&Parking { host: 0, user: parked, account }).unwrap();
+    let user = store.spawn(0, Rights::GRANT, Value::Cell(0)).unwrap();
+    let unparking = Parking { host: 0, user, account };
+    let not_distinct = Err(Error::Denied(Denial::NotDistinct { rule: Rule::Grant }));
+    assert_eq!((store.unpark(&Parking { user: 0, ..unparking }), store.unpark(&Parking { account: user, ..unparking })), (not_distinct, not_distinct));
+    assert_eq!(store.unpark(&Parking { account: 999, ..unparking }), missing(Rule::Grant, 0, 999, Rights::TAKE));
+    assert_eq!(store.unpark(&Parking { host: user, user: 0, account }), missing(Rule::Grant, user, 0, Rights::GRANT));
+    let before = store.entries().unwrap();
+    assert_eq!(store.unpark(&Parking { user: parked, ..unparking }), Err(Error::NoSuchWorker));
+    assert_eq!(store.unpark(&Parking { host: 999, ..unparking }), Err(Error::NoSuchWorker));
+    store.grant(0, user, account, Rights::INSPECT).unwrap();
+    assert_eq!((store.unpark(&unparking), store.entries()), (Err(Error::InUse), Ok(before + 1)));
+    store.remove(user, account, Rights::INSPECT).unwrap();
+    assert_eq!((store.unpark(&unparking), store.entries()), (Ok(3), Ok(before + 8)));
+    let held: Vec<_> = store.list(user).unwrap().iter().map(|target| (target.to, target.rights)).collect();
+    assert_eq!(held, letters.iter().map(|letter| (*letter, Rights::READ | Rights::WRITE)).collect::<Vec<_>>());
+    assert_eq!((store.label(0, account), store.edges_to(account)), (Ok(Rights::NONE), Ok(vec![])));
+    let again = store.spawn(0, Rights::GRANT, Value::Cell(0)).unwrap();
+    assert_eq!(store.unpark(&Parking { user: again, ..unparking }), missing(Rule::Grant, 0, account, Rights::TAKE));
+    assert_eq!(store.entries(), store.audit());
+}
+
+#[test]
 fn laws_are_shown() {
     let mut store = opened_with(0, 1, Rights::GRANT);
     let laws = [(Value::Cell(1), Law::Cell), (Value::Sum(2), Law::Sum), (Value::Max(3), Law::Max), (Value::Log(64), Law::Log(64))];

@@ -1,5 +1,5 @@
 -- The questions of C about the future. A question is asked of a store in its place, and the answer is in another place.
-use Rattle.std.specs.Prelude.{◌≡◌, ◌≢◌, ◌⊎◌, ℕ, ◌==◌, Bool, true, false, List, [], ◌∷◌, Some, Result, Ok, Err, if◌then◌else◌, length, map, slice_get, ok_or}
+use Rattle.std.specs.Prelude.{◌≡◌, ◌≢◌, ◌⊎◌, ℕ, ◌==◌, Bool, true, false, List, [], ◌∷◌, Some, Result, Ok, Err, IfOk, IfErr, if◌then◌else◌, length, map, slice_get, ok_or}
 use Rattle.std.specs.Option.{IsSome}
 use Rattle.std.specs.List.{All}
 use Rattle.tg_rights.specs.declared.Right.{Right}
@@ -100,6 +100,20 @@ outlook_kind Open = 5
 abbrev pub kind_in : ReachedAnswer → ℕ
 kind_in Unreached = 4
 kind_in (Of answer) = outlook_kind answer
+
+-- the kind of an answer, or why there is none
+abbrev pub kind_told : Result ReachedAnswer CallRefusal → Result ℕ CallRefusal
+kind_told (Ok told) = Ok (kind_in told)
+kind_told (Err why) = Err why
+
+-- A question of C for the kind of the answer alone. The store is as it was.
+pub record ForeseesKind (old new : StorePlace) (silent : List ℕ) (as_if : List EdgeIn) (x right y : ℕ) (tells : Result ℕ CallRefusal → Type 0) : Type 0 where
+  pub stays : new.is_open ≡ old.is_open
+  pub same : old.is_open ≡ true → state_in new ≡ state_in old
+  pub answer : Result ReachedAnswer CallRefusal
+  pub told : tells (kind_told answer)
+  pub is : IfOk answer (IsForeseen old false silent as_if x right y)
+  pub refused : IfErr answer (IsRefusedQuestion old false silent as_if right)
 
 -- how many names are lacking
 abbrev pub names_answered : Answer → ℕ

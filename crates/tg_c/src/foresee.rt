@@ -1,12 +1,12 @@
 //! The question whether x could ever come to hold a right over y, asked of a store in its place.
-ghost use Rattle.std.specs.Prelude.{◌↔◌, IfOk, IfErr, IsTrue};
+ghost use Rattle.std.specs.Prelude.{◌≡◌, ◌↔◌, IfOk, IfErr, IsTrue};
 ghost use Rattle.tg_model.specs.Graph.{ProtectionGraph, IsSound};
 ghost use Rattle.tg_could.specs.Reached.{IsReachedPicture, IsToldOf, JoinReached, with_edges};
 ghost use Rattle.tg_c.specs.Calls.{IsMemoryOr};
-ghost use Rattle.tg_c.specs.Could.{IsForeseen, IsRefusedQuestion};
+ghost use Rattle.tg_c.specs.Could.{ForeseesKind, IsForeseen, IsRefusedQuestion};
 ghost use Rattle.tg_c.specs.Inner.Stores.{KeepsStore};
 
-use crate::forms::EdgeIn;
+use crate::forms::{EdgeIn, QuestionIn};
 use crate::held::Holder;
 use crate::law_store::LawStore;
 use crate::opening::{check_rights, edges_in};
@@ -17,17 +17,6 @@ use std::alloc::Global;
 use tg_could::{Question, ReachedAnswer, could_hold_reached, join_reached};
 use tg_model::{Edge, Picture};
 use tg_rights::Right;
-
-/// A question as C asks it. It asks whether x could ever come to hold the right of this bit over y.
-#[derive(Clone, Copy)]
-pub struct BitQuestion {
-    /// The vertex that could come to hold the right.
-    pub x: u64,
-    /// The bit of the right, as [`Right::bit`] has it.
-    pub right: u64,
-    /// The vertex that the right is over.
-    pub y: u64,
-}
 
 /// Answers whether x could ever come to hold the right of this bit over y. The silent workers take no turns, and the
 /// edges of `as_if` are supposed to be there too. The checks have this order:
@@ -45,7 +34,7 @@ pub fn foresee(
     place: &mut StorePlace,
     silent: &[u64],
     as_if: &[EdgeIn],
-    asked: BitQuestion,
+    asked: QuestionIn,
     is_open: bool,
 ) -> Result<Box<Outlook>, CallRefusal>
     ensures kept { KeepsStore place.old place.new }
@@ -70,6 +59,23 @@ pub fn foresee(
     let foreseen = opened.foresee(alloc, silent, as_if, question);
     place.put(opened);
     foreseen
+}
+
+/// The kind of the answer alone, by its number ([`Outlook::kind`]). The checks are the checks of [`foresee`], with an
+/// answer's place that is closed. The store is as it was.
+pub fn foresee_kind(
+    alloc: Global,
+    place: &mut StorePlace,
+    silent: &[u64],
+    as_if: &[EdgeIn],
+    asked: QuestionIn,
+) -> Result<u64, CallRefusal>
+    ensures { ForeseesKind place.old place.new silent.now as_if.now asked.x asked.right asked.y (λ told. result ≡ told) }
+{
+    match foresee(alloc, place, silent, as_if, asked, false) {
+        Ok(opened) => Ok(opened.kind()),
+        Err(refusal) => Err(refusal),
+    }
 }
 
 /// The values that a question about an open store needs. They are the picture of the vertices that its workers reach,

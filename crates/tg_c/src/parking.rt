@@ -1,6 +1,6 @@
-//! How a host parks a user from C.
+//! How a host parks a user from C, and unparks it.
 ghost use Rattle.std.specs.Prelude.{◌≡◌};
-ghost use Rattle.tg_c.specs.Parking.{Parks, TellsParked, park_room, parking_in as parking_told};
+ghost use Rattle.tg_c.specs.Parking.{Parks, TellsParked, Unparks, park_room, parking_in as parking_told};
 
 use crate::forms::{DenialOut, ParkingIn, denial_out};
 use crate::held::Holder;
@@ -10,7 +10,7 @@ use crate::tell::{DENIED, DONE};
 use std::alloc::Global;
 use tg_store::{Parked, Parking};
 
-/// The parking that C asks for.
+/// The parking or the unparking that C asks for.
 pub fn parking_in(form: &ParkingIn) -> Parking
     ensures { result ≡ parking_told form.now }
 {
@@ -33,7 +33,24 @@ pub fn park(alloc: Global, place: &mut StorePlace, parking: Parking) -> Result<P
     Ok(parked?)
 }
 
-/// Reports how many edges a parked user had, or why the host's grant was denied. Returns the status.
+/// A host unparks a user of the store in the place.
+pub fn unpark(
+    alloc: Global,
+    place: &mut StorePlace,
+    parking: Parking,
+) -> Result<Parked, CallRefusal>
+    ensures { Unparks place.old place.new parking (λ told. result ≡ told) }
+{
+    let Some(mut opened) = place.take(alloc) else {
+        return Err(CallRefusal::NotOpen);
+    };
+    let unparked = opened.store.unpark(parking);
+    place.put(opened);
+    Ok(unparked?)
+}
+
+/// Reports how many edges a parked user had, or an unparked user got, or why the host's grant was denied. Returns the
+/// status.
 pub fn tell_parked(
     answer: Result<Parked, CallRefusal>,
     edges: &mut u64,

@@ -1,15 +1,17 @@
 //! The functions by which C asks what could ever come about, and reads the answer.
 ghost use Rattle.std.specs.Prelude.{◌≡◌, true, false, Ok, length};
-ghost use Rattle.tg_c.specs.Could.{Consults, Foresees, TellsTurn, kind_in, names_told, turn_at, turns_in, turn_told};
+ghost use Rattle.tg_c.specs.Could.{Consults, Foresees, ForeseesKind, TellsTurn, kind_in, names_told, turn_at, turns_in, turn_told};
+ghost use Rattle.tg_c.specs.Policy.{AsksPolicy, place_out};
 ghost use Rattle.tg_c.specs.Statuses.{TellsNumber, status_of};
 
 use std::alloc::Global;
 use tg_c::answer::AnswerPlace;
 use tg_c::could::tell_turn;
-use tg_c::foresee::{BitQuestion, foresee};
-use tg_c::forms::EdgeIn;
+use tg_c::foresee::{foresee, foresee_kind};
+use tg_c::forms::{EdgeIn, QuestionIn};
 use tg_c::held::Holder;
 use tg_c::place::StorePlace;
+use tg_c::policy::first_breach;
 use tg_c::records::RecordOut;
 use tg_c::refusal::CallRefusal;
 use tg_c::tell::{DONE, tell_number};
@@ -30,10 +32,57 @@ pub extern "C" fn tg_could(
 ) -> u32
     ensures { Foresees store.old store.new silent.now as_if.now x right y answer.old answer.new result }
 {
-    let asked = BitQuestion { x, right, y };
+    let asked = QuestionIn { x, right, y };
     match foresee(alloc, store, silent, as_if, asked, answer.is_open) {
         Ok(opened) => {
             answer.put(opened);
+            DONE
+        }
+        Err(refusal) => refusal.status(),
+    }
+}
+
+/// Answers as [`tg_could`] does, and writes the kind of the answer alone to `kind`, as [`tg_answer_kind`] has it.
+#[unsafe(no_mangle)]
+pub extern "C" fn tg_could_kind(
+    alloc: Global,
+    store: &mut StorePlace,
+    silent: &[u64],
+    as_if: &[EdgeIn],
+    x: u64,
+    right: u64,
+    y: u64,
+    kind: &mut u64,
+) -> u32
+    ensures { ForeseesKind store.old store.new silent.now as_if.now x right y (TellsNumber result kind.old kind.new) }
+{
+    let asked = QuestionIn { x, right, y };
+    tell_number(foresee_kind(alloc, store, silent, as_if, asked), kind)
+}
+
+/// Asks many questions at once, each of which is to be answered never. The place of the first one that isn't goes to
+/// `at`, and its answer to a place that is closed. If each is answered never, `at` gets the number of questions, and the
+/// answer's place is as it was. The store is as it was, and its journal gets no entry.
+#[unsafe(no_mangle)]
+pub extern "C" fn tg_could_any(
+    alloc: Global,
+    store: &mut StorePlace,
+    silent: &[u64],
+    as_if: &[EdgeIn],
+    questions: &[QuestionIn],
+    at: &mut u64,
+    answer: &mut AnswerPlace,
+) -> u32
+    ensures { AsksPolicy store.old store.new silent.now as_if.now questions.now (place_out at.old at.new) answer.old answer.new result }
+{
+    match first_breach(alloc, store, silent, as_if, questions, answer.is_open) {
+        Ok(Some(breach)) => {
+            *at = breach.place;
+            answer.put(breach.answer);
+            DONE
+        }
+        Ok(None) => {
+            *at = questions.len() as u64;
             DONE
         }
         Err(refusal) => refusal.status(),
