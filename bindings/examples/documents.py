@@ -1,5 +1,5 @@
 """A service that shares documents. Clients come and go. Before each grant the service asks whether a rule could be broken by it."""
-from kovshenul import GRANT, READ, TAKE, WRITE, Auditor, Cell, Denied, Limits, Log, Store, end_text, opening_text, outlook
+from kovshenul import GRANT, READ, TAKE, WRITE, Auditor, Cell, Denied, Limits, Log, Store, end_text, opening_text
 
 HOST = 0
 OPENING = [Cell(0)], [], Limits(2**40, 4096, 2**20)
@@ -33,12 +33,10 @@ class Service:
         self.rules.append((name, right, document))
 
     def share(self, giver, receiver, document, rights):
-        supposed = self.clients[receiver], document, rights
-        for name, right, guarded in self.rules:
-            if name in self.clients:
-                answer = self.store.could(self.clients[name], right, guarded, as_if=[supposed])
-                if not isinstance(answer, (outlook.Never, outlook.Unreached)):
-                    raise Forbidden(f"{name} could come to hold {right.letters} over {guarded}: {answer}")
+        policy = [(self.clients[name], right, guarded) for name, right, guarded in self.rules if name in self.clients]
+        breach = self.store.could_any(policy, as_if=[(self.clients[receiver], document, rights)])
+        if breach:
+            raise Forbidden("{} could come to hold {!r} over {}".format(*policy[breach.at]))
         self.store.hand(HOST, self.clients[giver], self.clients[receiver], document, rights)
 
     def tidy(self):
@@ -46,6 +44,7 @@ class Service:
         self.store.collect()
         alive = self.store.names()
         self.texts = {document: text for document, text in self.texts.items() if document in alive}
+        self.rules = [rule for rule in self.rules if rule[2] in alive]
         for entry in self.store.journal():
             self.write(str(entry))
         self.auditor.forget(self.store, self.auditor.feed(self.store))
