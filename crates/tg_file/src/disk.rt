@@ -45,23 +45,23 @@ pub fn make_disk<S: Start>(
     ensures named { IfOk result (λ made. (made.name.is_renamed ≡ false) × (made.name.is_lasting ≡ false)) }
 {
     refuse_if_there(rt, path)?;
-    let new = format!(in rt.alloc(); "{path}.new")?;
-    if !is_free(rt, new.as_str()) {
+    let first = format!(in rt.alloc(); "{path}.new")?;
+    if !is_free(rt, first.as_str()) {
         return Err(PathFault::NewNameTaken);
     }
-    let disk = match lock_disk(rt, new.as_str(), start) {
-        Err(PathFault::Io(error)) if error.kind() == ErrorKind::NotFound => return Err(
-            PathFault::NoFolder,
-        ),
+    let disk = match lock_disk(rt, first.as_str(), start) {
+        Err(PathFault::Io(error)) if error.kind() == ErrorKind::NotFound => {
+            return Err(PathFault::NoFolder);
+        }
         locked => locked?,
     };
     // Another process may have made the file, before this one had the lock.
     refuse_if_there(rt, path)?;
-    let folder = open_folder(rt, new.as_str())?;
-    let path = String::from_str(rt.alloc(), path)?;
+    let folder = open_folder(rt, first.as_str())?;
+    let last = String::from_str(rt.alloc(), path)?;
     let name = NewName {
-        path,
-        new,
+        first,
+        last,
         folder,
         is_renamed: false,
         is_lasting: false,

@@ -7,8 +7,8 @@ use std::{fs, io};
 /// it.
 #[derive(Drop)]
 pub struct NewName {
-    pub(crate) path: String,
-    pub(crate) new: String,
+    pub(crate) first: String,
+    pub(crate) last: String,
     pub(crate) folder: fs::File,
     /// The file has its last name, unless the machine crashes.
     pub is_renamed: bool,
@@ -22,7 +22,7 @@ impl NewName {
         ensures renamed { OnOk result (IsTrue self.new.is_renamed) }
         ensures lasting { self.new.is_lasting ≡ self.old.is_lasting }
     {
-        fs::rename(rt, self.new.as_str(), self.path.as_str())?;
+        fs::rename(rt, self.first.as_str(), self.last.as_str())?;
         self.is_renamed = true;
         Ok(())
     }
@@ -39,6 +39,6 @@ impl NewName {
 
     /// Removes the file under its first name. It does nothing if it can't.
     pub fn give_up(self, rt: &HostRuntime) {
-        let _ = fs::remove_file(rt, self.new.as_str());
+        let _ = fs::remove_file(rt, self.first.as_str());
     }
 }

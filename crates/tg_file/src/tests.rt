@@ -1,4 +1,4 @@
-use crate::{PathFault, make_disk, open_disk};
+use crate::{NewName, PathFault, make_disk, open_disk};
 use sqlite_disk::{Disk, Unknown, Wary};
 use std::fs;
 use std::os::unix::fs::symlink;
@@ -78,5 +78,20 @@ fn refuses_other_names(rt: HostRuntime) -> Result<(), Fail> {
     );
     assert_eq!(rt; fs::read(&rt, path)?.as_slice(), b"x".as_slice());
     fs::remove_dir_all(&rt, "tg_file_others")?;
+    Ok(())
+}
+
+// A device has no names to sync, so the call fails if it asks the system.
+#[test]
+fn syncs_its_folder(rt: HostRuntime) -> Result<(), Fail> {
+    let mut name = NewName {
+        first: String::new(rt.alloc()),
+        last: String::new(rt.alloc()),
+        folder: fs::File::open(&rt, "/dev/null")?,
+        is_renamed: true,
+        is_lasting: false,
+    };
+    assert!(rt; name.sync_folder().is_err());
+    assert!(rt; !name.is_lasting);
     Ok(())
 }

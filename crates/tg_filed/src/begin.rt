@@ -1,5 +1,5 @@
 //! Beginning a kept store at a path.
-ghost use Rattle.std.specs.Prelude.{◌≡◌, [], IfOk, IsTrue, OnOk};
+ghost use Rattle.std.specs.Prelude.{◌≡◌, [], IfOk, IsTrue};
 ghost use Rattle.tg_kept.specs.Keeping.{IsFirst, LeavesStore};
 
 use crate::fault::BeginFault;
@@ -34,12 +34,9 @@ pub fn begin_kept<S: Start, P: Payload>(
     ensures left { IfOk result (λ begun. LeavesStore ⟦<FileFrom<S> as Disk>⟧ begun.kept.store begun.kept.file.disk) }
     ensures lasting { IfOk result (λ begun. IsTrue begun.name.is_lasting) }
 {
-    let NewFile { disk, mut name } = make_disk(rt, path, start)?;
+    let NewFile { disk, name } = make_disk(rt, path, start)?;
     match Kept::begin(rt.alloc(), disk, store) {
-        Ok(kept) => {
-            give_name(rt, &mut name)?;
-            Ok(Begun { kept, name })
-        }
+        Ok(kept) => give_name(rt, name, kept),
         Err(lost) => {
             name.give_up(rt);
             Err(BeginFault::File(lost.why))
@@ -47,11 +44,21 @@ pub fn begin_kept<S: Start, P: Payload>(
     }
 }
 
-// Gives a file its last name, for good. Its lines are on the disk.
-fn give_name(rt: &HostRuntime, name: &mut NewName) -> Result<(), BeginFault>
-    ensures { OnOk result (IsTrue name.new.is_lasting) }
+// Gives a file its last name, for good. Its lines are on the disk, since the store is kept.
+fn give_name<D: Disk, P: Payload>(
+    rt: &HostRuntime,
+    mut name: NewName,
+    kept: Kept<D, P>,
+) -> Result<Begun<D, P>, BeginFault>
+    ensures kept { IfOk result (λ begun. begun.kept ≡ kept) }
+    ensures lasting { IfOk result (λ begun. IsTrue begun.name.is_lasting) }
 {
-    name.rename(rt).map_err(|error| BeginFault::Rename(error))?;
-    name.sync_folder()
-        .map_err(|error| BeginFault::Folder(error))
+    if let Err(error) = name.rename(rt) {
+        name.give_up(rt);
+        return Err(BeginFault::Rename(error));
+    }
+    match name.sync_folder() {
+        Ok(()) => Ok(Begun { kept, name }),
+        Err(error) => Err(BeginFault::Folder(error)),
+    }
 }
