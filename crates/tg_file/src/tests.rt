@@ -11,6 +11,8 @@ fn makes_renames_and_opens(rt: HostRuntime) -> Result<(), Fail> {
     fs::create_dir(&rt, "tg_file_made")?;
     let path = "tg_file_made/a.kept";
     assert!(rt; matches!(open_disk(&rt, path, Unknown), Err(PathFault::Missing)));
+    make_disk(&rt, path, Unknown)?.name.give_up(&rt);
+    assert!(rt; !fs::exists(&rt, "tg_file_made/a.kept.new")?);
     let mut made = make_disk(&rt, path, Unknown)?;
     assert!(rt; !fs::exists(&rt, path)?);
     assert!(rt; !fs::exists(&rt, "tg_file_made/a.kept.new-wal")?);
@@ -51,6 +53,12 @@ fn refuses_other_names(rt: HostRuntime) -> Result<(), Fail> {
         matches!(
             open_disk(&rt, "tg_file_others", Unknown),
             Err(PathFault::Folder)
+        )
+    );
+    assert!(rt;
+        matches!(
+            open_disk(&rt, "/dev/null", Unknown),
+            Err(PathFault::NotAFile)
         )
     );
     symlink(&rt, "nothing", path)?;

@@ -1,5 +1,5 @@
 -- Why no store goes on from the file at a path.
-use Rattle.std.specs.Prelude.{◌≡◌, ℕ, List, IsTrue, Unit}
+use Rattle.std.specs.Prelude.{◌≡◌, ℕ, List, IsTrue}
 use Rattle.sqlite_disk.specs.declared.Disk as disk
 use Rattle.tg_space.specs.SpaceTable.{BlockLimits}
 use Rattle.tg_keep.specs.Lines.{history_of}

@@ -45,7 +45,7 @@ pub fn begin_kept<S: Start, P: Payload>(
 }
 
 // Gives a file its last name, for good. Its lines are on the disk, since the store is kept.
-fn give_name<D: Disk, P: Payload>(
+fn give_name<D: Disk + Drop, P: Payload>(
     rt: &HostRuntime,
     mut name: NewName,
     kept: Kept<D, P>,

@@ -37,10 +37,10 @@ pub fn serve_file<S: Start, P: Payload, M: Maker<P>>(
     asked: AskedRun,
     answered: &mut usize,
 ) -> Result<Kept<FileFrom<S>, P>, RunFault<FileFrom<S>>>
-    ensures served { IfOk result (λ kept. RunsOn (⟦<FileFrom<S> as Disk>⟧.is_clean kept.file.disk) S.Start.db asked.limits asked.batches.now kept.store) }
-    ensures all { OnOk result (answered.new ≡ length asked.batches.now) }
+    ensures served { IfOk result (λ kept. RunsOn (⟦<FileFrom<S> as Disk>⟧.is_clean kept.file.disk) S.Start.db asked.entry.limits asked.entry.batches.now kept.store) }
+    ensures all { OnOk result (answered.new ≡ length asked.entry.batches.now) }
     ensures left { IfOk result (λ kept. LeavesStore ⟦<FileFrom<S> as Disk>⟧ kept.store kept.file.disk) }
-    ensures ended { IfErr result (EndsRun ⟦<FileFrom<S> as Disk>⟧ S.Start.db asked.limits asked.batches.now answered.new) }
+    ensures ended { IfErr result (EndsRun ⟦<FileFrom<S> as Disk>⟧ S.Start.db asked.entry.limits asked.entry.batches.now answered.new) }
 {
     *answered = 0;
     let back = match open_kept(rt, asked.path, start, asked.limits, maker) {
