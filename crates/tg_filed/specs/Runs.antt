@@ -1,5 +1,5 @@
 -- A run over a file: its replies, and what a crash leaves of them.
-use Rattle.std.specs.Prelude.{◌≡◌, ℕ, Bool, List, take, IsTrue}
+use Rattle.std.specs.Prelude.{◌≡◌, ℕ, Bool, List}
 use Rattle.sqlite_disk.specs.declared.Disk as disk
 use Rattle.tg_space.specs.SpaceTable.{BlockLimits}
 use Rattle.tg_store.specs.Store.{StoreState}
