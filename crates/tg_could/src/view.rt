@@ -107,10 +107,10 @@ impl View {
     }
 
     /// Adds an edge to the picture of the view. A grant makes such an edge, from the vertex that is given the rights to
-    /// their target. Returns whether it was added. It isn't if the edge joins two parts of the view, or if an end of it
-    /// wasn't made at the opening, or if the view answers nothing but `Perhaps`. Then the view stays as it was, and a
-    /// new view has to be opened on a picture with the edge. Each added edge costs later questions a step. Fails only
-    /// when out of memory, and the view stays as it was then too.
+    /// their target. Returns whether the edge was added. The call returns `false` if the edge joins two parts of the
+    /// view, or if an end of it wasn't made at the opening. It also returns `false` if the view answers nothing but
+    /// `Perhaps`. After `false` the view stays as it was, and a new view has to be opened on a picture with the edge.
+    /// Each added edge costs later questions a step. Fails only when out of memory, and leaves the view as it was.
     pub fn follow(&mut self, edge: Edge) -> Result<bool, AllocError>
         ensures { FollowsEdge self.old edge result self.new }
     {

@@ -20,8 +20,8 @@ use tg_text::{Count, Sink, WriteFailed, Written};
 // How many bytes are read at once.
 const BLOCK: usize = 65536;
 
-/// The content of the head of a part: the snapshot after the last entry of the part before, and the SHA-256 of all
-/// bytes of that part.
+/// The content of the head of a part. It is the snapshot after the last entry of the part before, and the SHA-256 of
+/// all bytes of that part.
 #[derive(Drop)]
 pub struct PartHead {
     pub snapshot: Snapshot,

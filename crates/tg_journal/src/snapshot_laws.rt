@@ -65,8 +65,8 @@ pub fn a_part_is_audited_alone()
         Passes (graph_shown p) es a }
 {}
 
-/// Three kinds of graph have a snapshot. They are the graph that an opening starts from, a graph that a snapshot shows,
-/// and each graph after a legal history of such a graph.
+/// Three kinds of graph have a snapshot. The first is the graph that an opening starts from, and the second a graph
+/// that a snapshot shows. The third is each graph after a legal history of a graph with a snapshot.
 pub fn graphs_can_be_saved()
     ensures opened { (plan : Plan) → IsPlan plan → CanBeSaved (start_of plan) }
     ensures shown { (p : Saved) → IsSnapshot p → CanBeSaved (graph_shown p) }

@@ -2,7 +2,7 @@
 //!
 //! By every schedule the helpers leave what one thread leaves (`IsCollection` of `tg_space`). Exactly the cells of
 //! from-space that the roots reach are copied. Each is copied once, to a place of its generation, and all references
-//! are moved. The scheme is that of parallel copying collectors (Halstead, 1985; Marlow, Harris, James and Peyton
+//! are moved. The scheme is that of parallel copying collectors (Halstead, 1985, and Marlow, Harris, James and Peyton
 //! Jones, 2008). Each cell has one forwarding word, which is written by a compare-and-exchange, and each helper has
 //! blocks of places for itself.
 //!

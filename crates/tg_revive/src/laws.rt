@@ -16,8 +16,8 @@ pub fn no_entry_of_a_text_is_bad()
         ¬ IsBadInHistory history.start history.entries.items at }
 {}
 
-/// A store that goes on from a snapshot of a graph, and from entries since, represents a graph that is alike to the one
-/// after these entries wherever subjects reach. So each later reply is the one that would have been given there.
+/// A store that goes on from a snapshot of a graph, and from entries since, represents a graph. Wherever subjects
+/// reach, the graph is alike to the graph after these entries. So each later reply is the reply of that graph.
 pub fn a_snapshot_is_enough()
     ensures { (g : ProtectionGraph) (snapshot : Saved) (es : List Entry) (limits : BlockLimits) (store : StoreState) →
         IsSound g → IsSnapshotOf snapshot g → IsRevived (Shown snapshot) es limits store →

@@ -39,9 +39,9 @@ pub struct RunOn<P: Payload> {
 /// line is a bad line.
 ///
 /// Each line is answered as by [`run_script_watched`](crate::run_script_watched), from the graph that the store
-/// represents. If entries are asked for, the line of each entry is written in the place of its reply, and the number of
-/// entries comes at the end. The number is that of all entries in the store's journal but the skipped ones. So the
-/// output can be put after a text of the store's entries, and is then a part of that text.
+/// represents. If entries are asked for, the line of each entry is written in the place of its reply. The number of
+/// entries comes at the end, and counts all entries in the store's journal but the skipped ones. So the output can be
+/// put after a text of the store's entries, and is then a part of that text.
 ///
 /// The output is finished before the source is asked for a byte that it doesn't hold, and at the end. The source is
 /// asked for at most 1,048,577 bytes.

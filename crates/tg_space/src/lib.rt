@@ -28,10 +28,10 @@
 //! **While a collection's blocks are put in place**, the old cells may be gone already. `Numbering` keeps their
 //! numbers. With it, `Moves` says where the collection has put what a word or a place named.
 //!
-//! **Definitions for several crates above** are in `specs/`. They are the targets of cells and roots, the closure of
-//! the roots as the least set, and the image of a cell under a map to new places. Others say which spaces and roots are
-//! sound, and what a collection of either kind leaves. The module `laws` has what follows from them. The main law is
-//! that of tracing. What was traced from the roots, and is complete, is exactly the closure.
+//! **Definitions for several crates above** are in `specs/`. They define the targets of cells and roots, and the
+//! closure of the roots as the least set. They define the image of a cell under a map to new places, and which spaces
+//! and roots are sound. They also define what a collection of either kind leaves. The module `laws` has the laws of
+//! these definitions. The main law is that of tracing. A complete trace from the roots is exactly their closure.
 #![tactic(auto)]
 
 pub use adoption::Adoption;

@@ -73,10 +73,10 @@ pub fn unparking_gives_what_the_account_holds()
         ((unparked g p).subjects ≡ g.subjects) × ((unparked g p).made ≡ g.made) × ((unparked g p).value ≡ g.value) }
 {}
 
-/// A user is parked (p) on one graph, and a new user is unparked (q) from the same account on a later graph, on which
-/// the account holds what the parking left in it. Then the new user holds exactly what the old one held. Suppose that a
-/// label of another vertex than the two users and the account is as the parking left it. Then the unparking leaves it
-/// as it was before the parking, except that the host holds nothing over the account.
+/// A user is parked (p) on one graph, and a new user is unparked (q) from the same account on a later graph. Suppose
+/// that the account still holds what the parking left in it. Then the new user holds exactly what the old one held.
+/// Suppose also that a label of another vertex than the two users and the account is as the parking left it. Then the
+/// unparking leaves the label as it was before the parking. Only the host holds nothing over the account then.
 pub fn who_comes_back_holds_what_was_parked()
     ensures user { (g h : ProtectionGraph) (p q : Parking) → p.user ≢ p.account → q.account ≡ p.account →
         ((y : ℕ) → h.label p.account y ≡ (parked g p).label p.account y) → (y : ℕ) → (unparked h q).label q.user y ≡ g.label p.user y }

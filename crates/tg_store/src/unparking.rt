@@ -58,8 +58,8 @@ fn take_alone() -> Label
 }
 
 /// Unparks a user. It decides the host's grant on the heap as it is. If the grant is served, it makes room for all
-/// entries, gives the user the edges of the account, and takes from the host what it holds over the account. Where it
-/// is refused, the heap has the same content, and the journal has the same entries.
+/// entries. Then it gives the user the edges of the account, and takes from the host what the host holds over the
+/// account. After a refusal the heap has the same content, and the journal has the same entries.
 pub(crate) fn unpark_on<P: Payload>(
     heap: &mut Heap<P>,
     journal: &mut TalliedJournal,

@@ -1,5 +1,5 @@
-//! Batches of two sessions that take turns: what each batch is answered, what its receipts say, which drafts are left,
-//! and which entries the closed store has.
+//! Batches of two sessions that take turns. The tests compare the answer to each batch, its receipts, the drafts that
+//! are left, and the entries of the closed store.
 use super::opened::{counted, open_store, read_and_write};
 use super::rounds::{RoundWay, play_round};
 use crate::opened::cells;

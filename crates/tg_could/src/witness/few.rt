@@ -65,7 +65,7 @@ pub(crate) fn grant_of(worker: u64, via: u64, right: Right, target: u64) -> Hand
 }
 
 impl Near {
-    /// The vertices with these names, of which each stands in the list once, and the edges between them on a picture.
+    /// The vertices with these names, each of which is in the list once, and the edges between them on a picture.
     pub(crate) fn of(
         alloc: Global,
         picture: &Picture,

@@ -9,9 +9,9 @@ use std::alloc::{AllocError, Global};
 use tg_model::{Command, Deed, Making};
 use tg_rights::{Right, Rights};
 
-/// A pair of vertices. `needed` are the rights that some turn needs the first to have over the second, `first` those of
-/// them that it has before the turns, and `now` those that it has after some of them. No edge leads from a vertex to
-/// itself, so there the right to read represents that the vertex takes turns.
+/// A pair of vertices, and rights that the first has over the second. `needed` are the rights that some turn needs.
+/// `first` are the needed rights that the vertex has before the turns, and `now` those after some of the turns. No edge
+/// leads from a vertex to itself, so there the right to read represents that the vertex takes turns.
 #[derive(Clone, Copy, Drop)]
 pub(crate) struct Pair {
     pub(crate) from: u64,

@@ -18,9 +18,9 @@ use tg_word::Place;
 
 impl<P: Payload> Store<P> {
     /// Returns the law of the payload of the vertex with a name, if a worker may read it, write to it or append to it.
-    /// The answer is `None` if the worker has none of the rights r, w and a over the vertex, and if no worker has the
-    /// name. So a worker learns the law of exactly the payloads that it may use. The call changes nothing and makes no
-    /// entry. Takes no memory.
+    /// The answer is `None` if the worker has none of the rights r, w and a over the vertex. It is also `None` if there
+    /// is no worker with the first name. So a worker learns the law of exactly the payloads that it may use. The call
+    /// changes nothing and makes no entry. Takes no memory.
     pub fn law(&self, worker: u64, name: u64) -> Option<Law>
         ensures { (g : ProtectionGraph) → StandsFor self.now g →
             ReportsLaw g (IsSubject g worker × (has_value_right (g.label worker name) ≡ true)) name result }

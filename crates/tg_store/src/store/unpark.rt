@@ -24,9 +24,10 @@ impl<P: Payload> Store<P> {
     /// account. The user takes each edge of the account, by rising name, and removes its take. Then the host removes
     /// all that it holds over the account. So there is an entry for each edge of the account, and three more.
     ///
-    /// The host's grant is decided first. It is denied if two of the three vertices are the same, or if the host lacks
-    /// grant over the user or take over the account. After an unparking the host holds no right over the account, so a
-    /// second one is denied. A denied unparking has this grant as its only entry, and changes nothing else.
+    /// The host's grant is decided first. It is denied if two of the three vertices are the same. It is also denied if
+    /// the host lacks grant over the user or take over the account. After an unparking the host holds no right over the
+    /// account, so a second one is denied. A denied unparking has this grant as its only entry, and changes nothing
+    /// else.
     ///
     /// The refusals follow. After each there is no entry, and all labels, values and subjects are as they were:
     ///

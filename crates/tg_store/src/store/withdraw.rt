@@ -16,10 +16,11 @@ impl<P: Payload> Store<P> {
     /// holds any of the rights over the target. All other labels are as they were.
     ///
     /// The answer has the names of those who still hold some of the rights afterwards, by rising name. They are among
-    /// `keep`, or objects, or subjects that retired. Only vertices that the active subjects then reach are listed. If
-    /// the answer is empty and the target was made, no vertex that is reached ever holds one of the rights over the
-    /// target again ([`withdrawn_rights_never_come_back`](crate::laws::withdrawn_rights_never_come_back)). Otherwise a
-    /// subject may take a right back from one who is listed.
+    /// `keep`, or objects, or subjects that retired. Only vertices that the active subjects then reach are listed.
+    /// Suppose that the answer is empty and the target was made. Then no vertex that is reached ever holds one of the
+    /// rights over the target again, by the law
+    /// [`withdrawn_rights_never_come_back`](crate::laws::withdrawn_rights_never_come_back). If the answer has names, a
+    /// subject may take a right back from a vertex that is listed.
     ///
     /// A name in `keep` that isn't an active subject's is ignored. A target that was never made has no edge, so
     /// nothing is removed, and the answer is empty. The call is refused only if memory runs out. Then the store is as

@@ -78,8 +78,9 @@ impl Withdrawal {
         Ok(removals)
     }
 
-    /// Who holds some of the rights over the target once they are given up, of all that the active subjects of the heap
-    /// then reach, by rising name. Names in the heap are below `made`. Fails only when out of memory.
+    /// Who holds some of the rights over the target once they are given up, by rising name. Only vertices that the
+    /// active subjects of the heap then reach are listed. Names in the heap are below `made`. Fails only when out of
+    /// memory.
     pub(crate) fn holders_after<P: Payload>(
         &self,
         alloc: Global,
