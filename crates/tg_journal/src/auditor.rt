@@ -21,6 +21,7 @@ use thiserror::Error;
 /// was fed. It may forget what no subject reaches, for good. So its memory depends on what can be reached, however many
 /// vertices were made. Contracts see the graph that it keeps, its place, and whether it found a bad entry there. The
 /// graph that it has come to is alike where subjects reach.
+#[derive(Drop)]
 pub struct Auditor {
     graph: LiveGraph,
     // How many entries passed, which is the place of the next.
@@ -29,18 +30,6 @@ pub struct Auditor {
     found_bad: bool,
     // It sweeps by itself where it has as many vertices.
     sweep_at: usize,
-}
-
-// It is written out, so that a crate that drops an auditor doesn't prove again how each part of it is dropped.
-impl Drop for Auditor {
-    fn drop(self) {
-        let Self {
-            graph: _graph,
-            at: _,
-            found_bad: _,
-            sweep_at: _,
-        } = self;
-    }
 }
 
 impl Model for Auditor {

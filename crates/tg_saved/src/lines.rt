@@ -13,6 +13,7 @@ use tg_snapshot::{ShownVertex, Snapshot, SnapshotFault};
 use tg_text::Written;
 
 /// What the lines of a snapshot's text gave so far. Contracts see it as the record of these, `Saved`.
+#[derive(Drop)]
 pub struct ReadLines {
     made: u64,
     limit: u64,
@@ -20,20 +21,6 @@ pub struct ReadLines {
     subjects: Vec<u64>,
     vertices: Vec<ShownVertex>,
     edges: Vec<Edge>,
-}
-
-// It is written out, so that code that drops these lists doesn't prove again how an element of each is dropped.
-impl Drop for ReadLines {
-    fn drop(self) {
-        let Self {
-            made: _,
-            limit: _,
-            entries: _,
-            subjects: _subjects,
-            vertices: _vertices,
-            edges: _edges,
-        } = self;
-    }
 }
 
 impl Model for ReadLines {
@@ -150,7 +137,7 @@ impl ReadLines {
     fn close(self) -> Result<Snapshot, SnapshotLineFault>
         ensures { IfOk result (λ snapshot. snapshot ≡ self) }
     {
-        let Self {
+        let ReadLines {
             made,
             limit,
             entries,
