@@ -119,13 +119,12 @@ impl<L: Ledger> TextAudit<L> {
     pub(crate) fn finish(&mut self) -> Option<Entered>
         ensures { (text : List ℕ) → HasRead text self.old → IfSome result (HasEnded self.old.keeps text) }
     {
-        match mem::replace(&mut self.stage, Stage::Stopped) {
-            Stage::Ended(entered) => Some(entered),
-            other => {
-                drop(other);
-                None
-            }
+        let stage = mem::replace(&mut self.stage, Stage::Stopped);
+        match stage {
+            Stage::Ended(entered) => return Some(entered),
+            other => drop(other),
         }
+        None
     }
 }
 
