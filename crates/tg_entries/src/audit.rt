@@ -10,7 +10,7 @@ ghost use Rattle.tg_entries.specs.Texts.{IsAudited, deed_text, worker_text};
 
 use crate::fault::{LineFault, LongFault};
 use crate::joint::joint_line;
-use crate::kept::{HistoryStart, Means, keep};
+use crate::kept::{HistoryStart, Means};
 use crate::long::long_stage;
 use crate::part::{Part, check_part, is_reply};
 use crate::read::{deed_part, read_deed, read_limits, worker_part};
@@ -22,19 +22,29 @@ use std::marker::Model;
 use std::mem;
 use std::sync::ledger::Ledger;
 use tg_journal::{Auditor, Entry};
-use tg_model::{Deed, Edge, MAX_LASTING_VERTICES, MAX_WORKERS, Opening, Reply, Value};
+use tg_model::{Deed, Edge, MAX_LASTING_VERTICES, MAX_WORKERS, Reply, Value};
 use tg_saved::{SNAPSHOT_VERSION, SnapshotStage, read_edge, read_value};
 use tg_snapshot::Snapshot;
 use tg_text::{Count, Written};
 
 /// An audit of the text of a history, which is fed a line at a time. It keeps the line that it reads, and of the graph
 /// no more than subjects reach. Contracts see how far it has read.
-#[derive(Drop)]
 pub struct TextAudit<L: Ledger> {
     means: Means,
     stage: Stage,
     // What was read from a line, written again.
     again: Written<L>,
+}
+
+// It is written out, so that code that drops an audit doesn't prove again how each part of it is dropped.
+impl<L: Ledger> Drop for TextAudit<L> {
+    fn drop(self) {
+        let Self {
+            means: _,
+            stage: _stage,
+            again: _again,
+        } = self;
+    }
 }
 
 impl<L: Ledger> Model for TextAudit<L> {
@@ -72,7 +82,8 @@ impl<L: Ledger> TextAudit<L> {
         ensures keeps { self.new.keeps ≡ self.old.keeps }
     {
         let stage = mem::replace(&mut self.stage, Stage::Stopped);
-        self.stage = next_stage(self.means, &mut self.again, stage, line)?;
+        let next = next_stage(self.means, &mut self.again, stage, line)?;
+        drop(mem::replace(&mut self.stage, next));
         Ok(())
     }
 
@@ -88,7 +99,8 @@ impl<L: Ledger> TextAudit<L> {
         ensures keeps { self.new.keeps ≡ self.old.keeps }
     {
         let stage = mem::replace(&mut self.stage, Stage::Stopped);
-        self.stage = long_stage(self.means, &mut self.again, stage, reader, line)?;
+        let next = long_stage(self.means, &mut self.again, stage, reader, line)?;
+        drop(mem::replace(&mut self.stage, next));
         Ok(())
     }
 
@@ -109,9 +121,10 @@ impl<L: Ledger> TextAudit<L> {
     {
         let stage = mem::replace(&mut self.stage, Stage::Stopped);
         match stage {
-            Stage::Ended(entered) => Some(entered),
-            _ => None,
+            Stage::Ended(entered) => return Some(entered),
+            other => drop(other),
         }
+        None
     }
 }
 
@@ -306,13 +319,7 @@ fn may_have_edge(head: &Head, edge: Edge) -> bool {
 pub(crate) fn open(means: Means, head: Head) -> Result<Entered, LineFault>
     ensures { (text : List ℕ) → HasHead text head → IfOk result (HasEntered means.keeps text) }
 {
-    let Head {
-        workers,
-        max_vertices,
-        values,
-        edges,
-    } = head;
-    let Ok(opening) = Opening::lasting(workers, edges, values, max_vertices) else {
+    let Some(opening) = head.opening() else {
         return Err(LineFault::BadLine);
     };
     let auditor = Auditor::open(means.alloc, &opening)?;
@@ -373,12 +380,11 @@ fn entry_line<L: Ledger>(
         return Err(LineFault::BadEntry { at });
     };
     entered.count = next;
-    let entry = Entry {
+    entered.keep(Entry {
         worker,
         deed,
         reply,
-    };
-    entered.kept = keep(entered.kept.take(), entry)?;
+    })?;
     Ok(())
 }
 

@@ -7,7 +7,7 @@ ghost use Rattle.tg_entries.specs.Texts.{deed_text};
 
 use crate::audit::{next_deed, open};
 use crate::fault::{LineFault, LongFault};
-use crate::kept::{Means, keep};
+use crate::kept::Means;
 use crate::listing::is_listing;
 use crate::read::front_part;
 use crate::stage::{Entered, Stage};
@@ -61,12 +61,11 @@ fn long_entry<L: Ledger, R: BufRead>(
     };
     entered.count = next;
     let (worker, deed) = told;
-    let entry = Entry {
+    entered.keep(Entry {
         worker,
         deed,
         reply,
-    };
-    entered.kept = keep(entered.kept.take(), entry)?;
+    })?;
     Ok(Stage::Entries(entered))
 }
 

@@ -52,8 +52,7 @@ pub fn read_history<R: BufRead + Drop>(alloc: Global, reader: &mut R) -> Result<
     ensures all { OnOk result (HasReadAll (R.remaining reader.old) (R.remaining reader.new)) }
 {
     let entered = audit_named::<Brand, R>(Means::keeping(alloc), Blank::new(1), reader)?;
-    let Entered { kept, .. } = entered;
-    match kept {
+    match entered.history() {
         Some(history) => Ok(history),
         // An audit that is asked to keep its history does so.
         None => unreachable!(),

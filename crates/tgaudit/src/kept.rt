@@ -9,6 +9,7 @@ ghost use Rattle.tg_keep.specs.Reports.{IsReportOn};
 ghost use Rattle.tgaudit.specs.Kept.{IsAfterFirst, NamesLine, RefusesKept, ended_line, text_before_end, text_of_file};
 
 use std::alloc::{AllocError, Global};
+use std::fmt::{self, Formatter};
 use std::marker::Brand;
 use std::sync::ledger::{Blank, Ledger};
 use tg_entries::{LineFault, TextAudit, VERSION};
@@ -25,7 +26,7 @@ pub(crate) struct KeptAudit<'a> {
 }
 
 /// Why a kept file didn't pass.
-#[derive(Clone, Copy, Debug, Error)]
+#[derive(Clone, Copy, Error)]
 pub(crate) enum KeptFault {
     /// The file isn't one of ours, or is damaged.
     #[error("{0}")]
@@ -46,6 +47,13 @@ pub(crate) enum KeptFault {
         /// How many lines the file has.
         lines: usize,
     },
+}
+
+// It shows the message. A derived `Debug` takes several times as long to prove.
+impl fmt::Debug for KeptFault {
+    fn fmt<W: fmt::Write>(&self, f: &mut Formatter<W>) -> fmt::Result {
+        fmt::Display::fmt(self, f)
+    }
 }
 
 // How many lines of a file were passed, and how many of them are entries.
