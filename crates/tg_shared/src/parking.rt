@@ -20,11 +20,7 @@ impl<L: Round, P: Payload> Locked<L, P> {
     ///
     /// A refused call makes no entry, and keeps all labels, values and subjects. A denied one has the host's grant as
     /// its only entry. A parking is done as a whole, or is refused before its first entry.
-    pub fn park(
-        &mut self,
-        keeper: &mut Keeper<L>,
-        parking: Parking,
-    ) -> Result<Parked, ParkFault>
+    pub fn park(&mut self, keeper: &mut Keeper<L>, parking: Parking) -> Result<Parked, ParkFault>
         requires may_end { L.start.may_end ≡ true }
         ensures answered { ParksUser parking self.old.store self.new.store result }
         ensures sees { Sees self.old.signed (keeper_knowledge keeper.old) }
@@ -48,11 +44,7 @@ impl<L: Round, P: Payload> Locked<L, P> {
     ///
     /// A refused call makes no entry, and keeps all labels, values and subjects. A denied one has the host's grant as
     /// its only entry. An unparking is done as a whole, or is refused before its first entry.
-    pub fn unpark(
-        &mut self,
-        keeper: &mut Keeper<L>,
-        parking: Parking,
-    ) -> Result<Parked, ParkFault>
+    pub fn unpark(&mut self, keeper: &mut Keeper<L>, parking: Parking) -> Result<Parked, ParkFault>
         requires may_end { L.start.may_end ≡ true }
         ensures answered { UnparksUser parking self.old.store self.new.store result }
         ensures sees { Sees self.old.signed (keeper_knowledge keeper.old) }
@@ -63,10 +55,10 @@ impl<L: Round, P: Payload> Locked<L, P> {
     {
         self.register.roll.look(&mut keeper.pass);
         let at = self.store.journal().len();
-        let parked = self.store.unpark(parking)?;
+        let unparked = self.store.unpark(parking)?;
         let journal = self.store.journal();
         self.entered += keeper.note_from(&mut self.register, &mut self.rest, journal, at);
-        Ok(parked)
+        Ok(unparked)
     }
 }
 

@@ -164,7 +164,9 @@ fn taken_back<L: Round>(
 ) -> Option<Store<CellPayload>> {
     match way {
         RoundWay::Loses => reclaim(store, sessions).ok(),
-        RoundWay::Tells | RoundWay::Parks | RoundWay::Acts => close_with(store, sessions, keeper).ok(),
+        RoundWay::Tells | RoundWay::Parks | RoundWay::Acts => close_with(
+            store, sessions, keeper,
+        ).ok(),
         _ => close(store, sessions).ok(),
     }
 }
