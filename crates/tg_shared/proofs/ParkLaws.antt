@@ -1,9 +1,10 @@
 -- What the keeper's parking or unparking leaves in the lock, and what the keeper knows then.
-use Rattle.std.specs.Prelude.{IfErr, OnErr, Result, Ok, Err}
-use Rattle.std.proofs.Common.{◌≡◌, ◌∙◌, ◌×◌, ℕ, ◌+◌, Bool, false, List, [], ◌∷◌, ◌++◌, length, map, append_assoc, length-append, ap, arith, refl, subst, sym}
+use Rattle.std.specs.Prelude.{IfErr, OnErr}
+use Rattle.std.proofs.Common.{◌≡◌, ◌∙◌, ℕ, ◌+◌, ◌<◌, false, List, [], ◌∷◌, ◌++◌, Result, Ok, Err, length, map, append_assoc, length-append, ap, arith, refl, subst, sym}
 use Rattle.std.proofs.lemmas.List.{length-map}
 use Rattle.std.proofs.lemmas.List.Sums.{sum_by-append, sum_by-cons}
-use Rattle.tg_rights.specs.RightSet.{RightSet}
+use Rattle.tg_rights.specs.RightSet.{RightSet, only}
+use Rattle.tg_rights.specs.declared.Right.TheVariants as right
 use Rattle.tg_model.specs.declared.command.Command.{Command}
 use Rattle.tg_model.specs.declared.reply.Denial.{Denial}
 use Rattle.tg_model.specs.Graph.{ProtectionGraph, IsSubject, listing_of}
@@ -21,8 +22,8 @@ use Rattle.tg_store.specs.declared.parking.Parked.{Parked}
 use Rattle.tg_store.specs.declared.parking.Parked.TheVariants.{Done, Denied}
 use Rattle.tg_store.specs.Handing.{done_by}
 use Rattle.tg_store.specs.Leaving.{leaving, removal, retiring}
-use Rattle.tg_store.specs.Parking.{ComesOfParking, IsKeyDenied, IsParked, KeepsGraph, filling, parked, parking, putting}
-use Rattle.tg_store.specs.Unparking.{ComesOfUnparking, taking, unparked, unparking}
+use Rattle.tg_store.specs.Parking.{ComesOfParking, IsKeyDenied, IsParked, KeepsGraph, filling, key_of, parked, parking, putting}
+use Rattle.tg_store.specs.Unparking.{ComesOfUnparking, take_key_of, taking, unparked, unparking}
 use Rattle.tg_store.specs.Store.{StoreState, IsFaithful, graph_of_store}
 use Rattle.tg_store.proofs.StandLaws.{sound_of}
 use Rattle.tg_shared.specs.Parking.{ChangesNothing, HasMadeAtOnce, HasParked, HasUnparked, ParksOnly, UnparksOnly, count_of_park, count_of_unpark, denied_key, entries_of_park, entries_of_unpark}
@@ -39,38 +40,38 @@ use Rattle.tg_shared.proofs.Leavings.{length_leaving, none_spawned}
 abbrev makes : Entry → ℕ
 makes e = one (is_spawn e)
 
+none_first : (e : Entry) (es : List Entry) → is_spawn e ≡ false → spawned es ≡ 0 → spawned (e ∷ es) ≡ 0
+none_first e es plain none =
+    let all = sum_by-cons makes e es in
+    let here = ap one plain in
+    omega (arith, all, here, none)
+
+none_together : (es more : List Entry) → spawned es ≡ 0 → spawned more ≡ 0 → spawned (es ++ more) ≡ 0
+none_together es more none later =
+    let all = sum_by-append makes es more in
+    omega (arith, all, none, later)
+
 none_put : (p : Parking) (row : List (ℕ × RightSet)) → spawned (map (putting p) row) ≡ 0
 none_put p [] = refl
-none_put p (e ∷ row) =
-    let rest = none_put p row in
-    let first = sum_by-cons makes (putting p e) (map (putting p) row) in
-    omega (arith, first, rest)
+none_put p (e ∷ row) = none_first (putting p e) (map (putting p) row) refl (none_put p row)
 
-none_moved : (p : Parking) (row : List (ℕ × RightSet)) → spawned (map (taking p) row) ≡ 0
-none_moved p [] = refl
-none_moved p (e ∷ row) =
-    let rest = none_moved p row in
-    let first = sum_by-cons makes (taking p e) (map (taking p) row) in
-    omega (arith, first, rest)
-
--- entries between others
-none_between : (first : Entry) (middle last : List Entry) → is_spawn first ≡ false → spawned middle ≡ 0 → spawned last ≡ 0 → spawned (first ∷ middle ++ last) ≡ 0
-none_between first middle last plain none_middle none_last =
-    let head = sum_by-cons makes first (middle ++ last) in
-    let rest = sum_by-append makes middle last in
-    let one_less = ap one plain in
-    omega (arith, head, rest, one_less, none_middle, none_last)
+none_taken_out : (p : Parking) (row : List (ℕ × RightSet)) → spawned (map (taking p) row) ≡ 0
+none_taken_out p [] = refl
+none_taken_out p (e ∷ row) = none_first (taking p e) (map (taking p) row) refl (none_taken_out p row)
 
 none_parked : (g : ProtectionGraph) (p : Parking) → spawned (parking g p) ≡ 0
 none_parked g p =
     let row = listing_of g.label g.made p.user in
-    let all = sum_by-append makes (filling p row) (leaving g p.user) in
-    omega (arith, all, none_between _ (map (putting p) row) _ refl (none_put p row) refl, none_spawned p.user row)
+    let last = none_first (removal p.user (p.account, only right.G)) [] refl refl in
+    let filled = none_first (done_by p.host (key_of p)) _ refl (none_together (map (putting p) row) _ (none_put p row) last) in
+    none_together (filling p row) (leaving g p.user) filled (none_spawned p.user row)
 
 none_unparked : (g : ProtectionGraph) (p : Parking) → spawned (unparking g p) ≡ 0
 none_unparked g p =
     let row = listing_of g.label g.made p.account in
-    none_between _ (map (taking p) row) _ refl (none_moved p row) refl
+    let last = none_first (removal p.host (p.account, g.label p.host p.account)) [] refl refl in
+    let both = none_first (removal p.user (p.account, only right.T)) _ refl last in
+    none_first (done_by p.host (take_key_of p)) _ refl (none_together (map (taking p) row) _ (none_taken_out p row) both)
 
 -- ---- what the store got
 
@@ -93,11 +94,11 @@ denied_got key host denial old new did = record {
 
 pub park_got : (p : Parking) (old new : StoreState) (answer : Parked) → ComesOfParking p old new answer → GotMore old new (entries_of_park (graph_of_store old) p answer)
 park_got p old new (Done edges) did = record { entries = did.entries; opening = did.opening; handed = did.handed; limits = did.limits; none = none_parked (graph_of_store old) p }
-park_got p old new (Denied denial) did = denied_got _ p.host denial old new did
+park_got p old new (Denied denial) did = denied_got (key_of p) p.host denial old new did
 
 pub unpark_got : (p : Parking) (old new : StoreState) (answer : Parked) → ComesOfUnparking p old new answer → GotMore old new (entries_of_unpark (graph_of_store old) p answer)
 unpark_got p old new (Done edges) did = record { entries = did.entries; opening = did.opening; handed = did.handed; limits = did.limits; none = none_unparked (graph_of_store old) p }
-unpark_got p old new (Denied denial) did = denied_got _ p.host denial old new did
+unpark_got p old new (Denied denial) did = denied_got (take_key_of p) p.host denial old new did
 
 -- ---- how many entries
 
@@ -109,7 +110,7 @@ park_count p old new (Done edges) did =
     let g = graph_of_store old in
     let row = listing_of g.label g.made p.user in
     let all = length-append (filling p row) (leaving g p.user) in
-    let first = length_between (done_by p.host _) (map (putting p) row) (removal p.user _ ∷ []) in
+    let first = length_between (done_by p.host (key_of p)) (map (putting p) row) (removal p.user (p.account, only right.G) ∷ []) in
     let each = length-map row (putting p) in
     let last = length_leaving g p.user in
     let count = did.count in
@@ -120,7 +121,7 @@ pub unpark_count : (p : Parking) (old new : StoreState) (answer : Parked) → Co
 unpark_count p old new (Done edges) did =
     let g = graph_of_store old in
     let row = listing_of g.label g.made p.account in
-    let all = length_between (done_by p.host _) (map (taking p) row) (removal p.user _ ∷ removal p.host _ ∷ []) in
+    let all = length_between (done_by p.host (take_key_of p)) (map (taking p) row) (removal p.user (p.account, only right.T) ∷ removal p.host (p.account, g.label p.host p.account) ∷ []) in
     let each = length-map row (taking p) in
     let count = did.count in
     omega (arith, all, each, count)
@@ -164,9 +165,9 @@ made_number v w old new more count noted got long =
     omega (arith, all, sum, long)
 
 -- where it is refused, the keeper has looked
-pub none_parked_then : {T E : Type 0} (r : Result T E) (v w : LockedState) (old new : KeeperState) → Sees v.signed (keeper_knowledge old) → HasNotedEnd v w old new → OnErr r (KeepsGraph v.store w.store) → OnErr r (KeeperLooked old new × (new.next ≡ old.next))
-none_parked_then (Ok t) v w old new sees noted same = tt
-none_parked_then (Err e) v w old new sees noted same = let kept = nothing_got v w old new noted same.entries in (keeper_looked old new v.signed kept.0 kept.1 sees, noted.next)
+pub none_made : {T E : Type 0} (r : Result T E) (v w : LockedState) (old new : KeeperState) → Sees v.signed (keeper_knowledge old) → HasNotedEnd v w old new → OnErr r (KeepsGraph v.store w.store) → OnErr r (KeeperLooked old new × (new.next ≡ old.next))
+none_made (Ok t) v w old new sees noted same = tt
+none_made (Err e) v w old new sees noted same = let kept = nothing_got v w old new noted same.entries in (keeper_looked old new v.signed kept.0 kept.1 sees, noted.next)
 
 -- and the reason is one of the store that it has seen
 pub refused_at : {T : Type 0} (r : Result T ParkFault) (e : ParkFault) (Q : StoreState → Type 0) (start : SharedStart) (v w : LockedState) (old new : KeeperState) → HoldsWhenFree start v → HasNotedEnd v w old new → OnErr r (KeepsGraph v.store w.store) → (r ≡ Err e → Q v.store)

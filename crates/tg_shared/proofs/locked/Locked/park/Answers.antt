@@ -1,7 +1,9 @@
 -- What a parking leaves in the lock.
-use Rattle.std.proofs.Common.{◌≡◌, ◌+◌, ◌∙◌, ◌×◌, ℕ, List, Err, Ok, ap, drop, length, subst, sym}
+use Rattle.std.proofs.Common.{◌≡◌, ◌+◌, ◌∙◌, ◌++◌, ℕ, List, Err, Ok, ap, drop, length, subst, sym}
 use Rattle.std.proofs.lemmas.Result.{err_from_is_err_and}
 use Rattle.tg_journal.specs.declared.entry.Entry.{Entry}
+use Rattle.tg_passes.specs.declared.signed.Maker.TheVariants.{Keeper}
+use Rattle.tg_passes.specs.Passes.{sign_all}
 use Rattle.tg_store.specs.Store.{StoreState, graph_of_store}
 use Rattle.tg_shared.specs.Parking.{ParksUser, entries_of_park}
 use Rattle.tg_shared.specs.Sessions.{LockedState}
@@ -47,4 +49,4 @@ invariant_of-self-2 g c =
     let here : c.len.result ≡ length old.entries = c.len.ensures ∙ ap (λ (es : List Entry). length es) c.journal.ensures.entries in
     let entries : drop c.len.result c.journal-journal.result.now.entries ≡ more = ap (drop c.len.result) c.journal-journal.ensures.entries ∙ got_entries old.entries new.entries more c.len.result got.entries here in
     noted_more g.L.Round.start old new more _ _ _ _ _ _ _ _ _ _ _ _ _ _ got c.self.invariant c.requires.may_end
-    (c.note_from.ensures.number ∙ ap (λ (l : List Entry). length l) entries) c.note_from.ensures.book c.note_from.ensures.amount c.note_from.ensures.parts (c.note_from.ensures.roll ∙ _)
+    (c.note_from.ensures.number ∙ ap (λ (l : List Entry). length l) entries) c.note_from.ensures.book c.note_from.ensures.amount c.note_from.ensures.parts (c.note_from.ensures.roll ∙ (λ i. record { signed = (c.look.ensures.same i).signed ++ sign_all Keeper (entries i); below = (c.look.ensures.same i).below }))
