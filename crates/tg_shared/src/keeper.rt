@@ -20,11 +20,11 @@ use tg_passes::{Pass, Roll};
 use tg_payload::Payload;
 use tg_store::ApplyFault;
 
-/// The owner of a keeper may take the entries of a shared store, see its whole graph, end a worker, withdraw rights from
-/// workers, and park and unpark users. A shared store has one keeper. Only [`SharedStore::new`] makes it, with the sessions. So the maker of
-/// the shared store decides who has the keeper. A session can neither take the journal away nor end another session's
-/// worker. A keeper takes no memory. [`close`](crate::close) works without it, because the locked value counts the
-/// keeper's entries.
+/// The owner of a keeper may take the entries of a shared store, see its whole graph, end a worker, withdraw rights
+/// from workers, and park and unpark users. A shared store has one keeper. Only [`SharedStore::new`] makes it, with the
+/// sessions. So the maker of the shared store decides who has the keeper. A session can neither take the journal away
+/// nor end another session's worker. A keeper takes no memory. [`close`](crate::close) works without it, because the
+/// locked value counts the keeper's entries.
 ///
 /// A keeper knows where its last part of the journal ended, and which entries it made. Only its own calls change this
 /// knowledge. Each of its calls of the store looks at all entries since the store was shared. So the keeper knows of

@@ -169,9 +169,9 @@ pub fn withdrawn_rights_stay_away()
     withdrawn_rights_never_come_back();
 }
 
-/// A user whom the keeper parks stops being a subject, and nobody else does. The graph after the entries that the keeper
-/// has then seen is the graph before, in which the account holds what the user held, and the user has left. If the
-/// host's grant was denied, it is the graph before.
+/// A user whom the keeper parks stops being a subject, and nobody else does. The graph after the entries that the
+/// keeper has then seen is the graph before, but for the parking. In it the account holds what the user held, and the
+/// user has left. If the host's grant was denied, both graphs are the same.
 pub fn a_parking_ends_only_the_user()
     ensures done { (start : SharedStart) (old new : KeeperState) (p : Parking) (edges : ℕ) →
         HasParked start p old new (parked.Done edges) → ParksOnly start new.seen p }
@@ -179,9 +179,9 @@ pub fn a_parking_ends_only_the_user()
         HasParked start p old new (parked.Denied denial) → ChangesNothing start new.seen }
 {}
 
-/// The keeper's unparking ends nobody. The same vertices are subjects before and after. The graph after the entries that
-/// the keeper has then seen is the graph before, in which the user holds what the account holds, and the host holds
-/// nothing over the account. If the host's grant was denied, it is the graph before.
+/// The keeper's unparking ends nobody. The same vertices are subjects before and after. The graph after the entries
+/// that the keeper has then seen is the graph before, but for the unparking. In it the user holds what the account
+/// holds, and the host holds nothing over the account. If the host's grant was denied, both graphs are the same.
 pub fn an_unparking_ends_nobody()
     ensures done { (start : SharedStart) (old new : KeeperState) (p : Parking) (edges : ℕ) →
         HasUnparked start p old new (parked.Done edges) → UnparksOnly start new.seen p }

@@ -14,9 +14,9 @@ use tg_payload::Payload;
 use tg_store::{ParkFault, Parked, Parking};
 
 impl<L: Round, P: Payload> Locked<L, P> {
-    /// Parks a user, by one call of the store. What the user holds goes into an account, and the user leaves. Each entry
-    /// is noted as the keeper's, and no session has a receipt of it. From then on the user's own session receives that
-    /// there is no such worker. Whether the call is refused or not, the keeper has then seen all entries.
+    /// Parks a user, by one call of the store. What the user holds goes into an account, and the user leaves. Each
+    /// entry is noted as the keeper's, and no session has a receipt of it. From then on the user's own session receives
+    /// that there is no such worker. Whether the call is refused or not, the keeper has then seen all entries.
     ///
     /// A refused call makes no entry, and keeps all labels, values and subjects. A denied one has the host's grant as
     /// its only entry. A parking is done as a whole, or is refused before its first entry.
@@ -63,22 +63,22 @@ impl<L: Round, P: Payload> Locked<L, P> {
 }
 
 impl<L: Round> Keeper<L> {
-    /// Parks a user as [`Store::park`](tg_store::Store::park) does, by one call of [`Locked::park`](crate::Locked::park)
-    /// under the lock. What the user holds goes into an account, and the user leaves, whatever its session does. Returns
-    /// how many edges the user had, or the denial of the host's grant.
+    /// Parks a user as [`Store::park`](tg_store::Store::park) does, by one call of
+    /// [`Locked::park`](crate::Locked::park) under the lock. What the user holds goes into an account, and the user
+    /// leaves, whatever its session does. Returns how many edges the user had, or the denial of the host's grant.
     ///
-    /// The entries came next after all entries that the keeper had seen then, and were legal there. They are exactly the
-    /// entries that the keeper made more (`parked`). There are two for each edge of the user, and three more, or the one
-    /// entry of a denied grant (`entered`). No session has a receipt of them, and [`close_with`](crate::close_with)
-    /// compares them with the journal. The user stops being a subject, and nobody else does
-    /// ([`a_parking_ends_only_the_user`](crate::laws::a_parking_ends_only_the_user)). It is never a subject again
-    /// ([`who_was_parked_stays_away`](crate::laws::who_was_parked_stays_away)). So each later call of its session
+    /// The entries came next after all entries that the keeper had seen then, and were legal there. They are exactly
+    /// the entries that the keeper made more (`parked`). There are two for each edge of the user, and three more, or
+    /// the one entry of a denied grant (`entered`). No session has a receipt of them, and
+    /// [`close_with`](crate::close_with) compares them with the journal. The user stops being a subject, and nobody
+    /// else does ([`a_parking_ends_only_the_user`](crate::laws::a_parking_ends_only_the_user)). It is never a subject
+    /// again ([`who_was_parked_stays_away`](crate::laws::who_was_parked_stays_away)). So each later call of its session
     /// reports that there is no such worker. The session's receipts stay right, and it is closed with as before.
     ///
     /// The host makes the account first, by its own session, and holds grant over the user and over the account.
     ///
-    /// The keeper makes entries of the host and of the user, as [`end`](Keeper::end) makes entries of another worker. So
-    /// the store has to be shared so that its keeper may end workers. If the call is refused, the keeper has made no
+    /// The keeper makes entries of the host and of the user, as [`end`](Keeper::end) makes entries of another worker.
+    /// So the store has to be shared so that its keeper may end workers. If the call is refused, the keeper has made no
     /// entry, so every right and every subject is as it was (`refused`). `NoSuchWorker` and `InUse` are refusals of a
     /// store with exactly the entries that the keeper has then seen.
     pub fn park<P: Payload, R: Wait>(
@@ -105,22 +105,22 @@ impl<L: Round> Keeper<L> {
 
     /// Unparks a user as [`Store::unpark`](tg_store::Store::unpark) does, by one call of
     /// [`Locked::unpark`](crate::Locked::unpark) under the lock. A new user takes out what an account holds, and the
-    /// host gives up what it holds over the account. Returns how many edges the account has, or the denial of the host's
-    /// grant.
+    /// host gives up what it holds over the account. Returns how many edges the account has, or the denial of the
+    /// host's grant.
     ///
     /// The host spawns the new user first, by its own session ([`Session::spawn`](crate::Session::spawn)), which hands
     /// out the session of the new user. The host hands the session to its client after the unparking. So the client
     /// finds all edges, or has no session.
     ///
-    /// The entries came next after all entries that the keeper had seen then, and were legal there. They are exactly the
-    /// entries that the keeper made more (`unparked`). There is one for each edge of the account, and three more, or the
-    /// one entry of a denied grant (`entered`). No session has a receipt of them, and [`close_with`](crate::close_with)
-    /// compares them with the journal. Nobody stops being a subject
+    /// The entries came next after all entries that the keeper had seen then, and were legal there. They are exactly
+    /// the entries that the keeper made more (`unparked`). There is one for each edge of the account, and three more,
+    /// or the one entry of a denied grant (`entered`). No session has a receipt of them, and
+    /// [`close_with`](crate::close_with) compares them with the journal. Nobody stops being a subject
     /// ([`an_unparking_ends_nobody`](crate::laws::an_unparking_ends_nobody)).
     ///
-    /// The store has to be shared as for [`park`](Keeper::park). If the call is refused, the keeper has made no entry, so
-    /// every right is as it was (`refused`). `NoSuchWorker` and `InUse` are refusals of a store with exactly the entries
-    /// that the keeper has then seen.
+    /// The store has to be shared as for [`park`](Keeper::park). If the call is refused, the keeper has made no entry,
+    /// so every right is as it was (`refused`). `NoSuchWorker` and `InUse` are refusals of a store with exactly the
+    /// entries that the keeper has then seen.
     pub fn unpark<P: Payload, R: Wait>(
         &mut self,
         rt: &R,
