@@ -1,6 +1,6 @@
 -- What the keeper's parking or unparking leaves in the lock, and what the keeper knows then.
 use Rattle.std.specs.Prelude.{IfErr, OnErr}
-use Rattle.std.proofs.Common.{◌≡◌, ◌∙◌, ℕ, ◌+◌, ◌<◌, false, List, [], ◌∷◌, ◌++◌, Result, Ok, Err, length, map, append_assoc, length-append, ap, arith, refl, subst, sym}
+use Rattle.std.proofs.Common.{◌≡◌, ◌∙◌, ℕ, ◌+◌, ◌<◌, true, false, List, [], ◌∷◌, ◌++◌, Result, Ok, Err, length, map, append_assoc, length-append, ap, arith, refl, subst, sym}
 use Rattle.std.proofs.lemmas.List.{length-map}
 use Rattle.std.proofs.lemmas.List.Sums.{sum_by-append, sum_by-cons}
 use Rattle.tg_rights.specs.RightSet.{RightSet, only}
@@ -14,7 +14,6 @@ use Rattle.tg_journal.specs.History.{IsLegal, graph_after}
 use Rattle.tg_journal.proofs.HistoryLaws.{no_subject-after}
 use Rattle.tg_graph.specs.Heap.{HeapState}
 use Rattle.tg_passes.specs.declared.signed.Maker.TheVariants.{Keeper}
-use Rattle.tg_passes.specs.declared.signed.Signed.{Signed}
 use Rattle.tg_passes.specs.Passes.{BeginsWith, RollState, Sees, sign_all}
 use Rattle.tg_store.specs.declared.parking.Parking.{Parking}
 use Rattle.tg_store.specs.declared.parking.ParkFault.{ParkFault}
@@ -62,16 +61,17 @@ none_taken_out p (e ∷ row) = none_first (taking p e) (map (taking p) row) refl
 none_parked : (g : ProtectionGraph) (p : Parking) → spawned (parking g p) ≡ 0
 none_parked g p =
     let row = listing_of g.label g.made p.user in
-    let last = none_first (removal p.user (p.account, only right.G)) [] refl refl in
-    let filled = none_first (done_by p.host (key_of p)) _ refl (none_together (map (putting p) row) _ (none_put p row) last) in
-    none_together (filling p row) (leaving g p.user) filled (none_spawned p.user row)
+    let last : List Entry = removal p.user (p.account, only right.G) ∷ [] in
+    let puts = none_together (map (putting p) row) last (none_put p row) (none_first (removal p.user (p.account, only right.G)) [] refl refl) in
+    none_together (filling p row) (leaving g p.user) (none_first (done_by p.host (key_of p)) (map (putting p) row ++ last) refl puts) (none_spawned p.user row)
 
 none_unparked : (g : ProtectionGraph) (p : Parking) → spawned (unparking g p) ≡ 0
 none_unparked g p =
     let row = listing_of g.label g.made p.account in
-    let last = none_first (removal p.host (p.account, g.label p.host p.account)) [] refl refl in
-    let both = none_first (removal p.user (p.account, only right.T)) _ refl last in
-    none_first (done_by p.host (take_key_of p)) _ refl (none_together (map (taking p) row) _ (none_taken_out p row) both)
+    let key : Entry = removal p.user (p.account, only right.T) in
+    let last : Entry = removal p.host (p.account, g.label p.host p.account) in
+    let both = none_first key (last ∷ []) refl (none_first last [] refl refl) in
+    none_first (done_by p.host (take_key_of p)) (map (taking p) row ++ key ∷ last ∷ []) refl (none_together (map (taking p) row) (key ∷ last ∷ []) (none_taken_out p row) both)
 
 -- ---- what the store got
 

@@ -33,7 +33,7 @@ pub returns-clause-entered : goal.returns-clause-entered
 returns-clause-entered g c =
     let old : StoreState = c.self.inside.store in
     let new : StoreState = c.park.new.self in
-    let here : c.len.result ≡ length old.entries = c.len.ensures ∙ ap (λ (es : List Entry). length es) c.journal.ensures.entries in
+    let here : c.len-at.result ≡ length old.entries = c.len-at.ensures ∙ ap (λ (es : List Entry). length es) c.journal.ensures.entries in
     let number : c.note_from.result ≡ length (drop (length old.entries) new.entries) = c.note_from.ensures.number ∙ (λ i. length (drop (here i) (c.journal-journal.ensures.entries i))) in
     subst (λ (b : LockedState). c.self.inside.entered + c.note_from.result ≡ b.entered + length (drop (length b.store.entries) new.entries)) c.self.view_is (ap (λ (n : ℕ). c.self.inside.entered + n) number)
 
@@ -46,7 +46,7 @@ invariant_of-self-2 g c =
     let new : StoreState = c.park.new.self in
     let more : List Entry = entries_of_park (graph_of_store old) c.args.parking c.in_ok-parked.parked in
     let got : GotMore old new more = park_got c.args.parking old new c.in_ok-parked.parked c.in_ok-parked.ensures.comes in
-    let here : c.len.result ≡ length old.entries = c.len.ensures ∙ ap (λ (es : List Entry). length es) c.journal.ensures.entries in
-    let entries : drop c.len.result c.journal-journal.result.now.entries ≡ more = ap (drop c.len.result) c.journal-journal.ensures.entries ∙ got_entries old.entries new.entries more c.len.result got.entries here in
+    let here : c.len-at.result ≡ length old.entries = c.len-at.ensures ∙ ap (λ (es : List Entry). length es) c.journal.ensures.entries in
+    let entries : drop c.len-at.result c.journal-journal.result.now.entries ≡ more = ap (drop c.len-at.result) c.journal-journal.ensures.entries ∙ got_entries old.entries new.entries more c.len-at.result got.entries here in
     noted_more g.L.Round.start old new more _ _ _ _ _ _ _ _ _ _ _ _ _ _ got c.self.invariant c.requires.may_end
     (c.note_from.ensures.number ∙ ap (λ (l : List Entry). length l) entries) c.note_from.ensures.book c.note_from.ensures.amount c.note_from.ensures.parts (c.note_from.ensures.roll ∙ (λ i. record { signed = (c.look.ensures.same i).signed ++ sign_all Keeper (entries i); below = (c.look.ensures.same i).below }))
