@@ -4,6 +4,7 @@
 mod batches;
 mod hands;
 mod opened;
+mod parks;
 mod rounds;
 mod shares;
 mod shown;

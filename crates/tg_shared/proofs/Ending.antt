@@ -61,13 +61,16 @@ got_count old new worker at all count left here there number =
     let more = length-append old.entries (leaving (graph_of_store old) worker) in
     (omega (arith, long, grew, more, here, there, number), omega (arith, long, grew, more, here, there, number), omega (arith, long, grew, more, here, there, number))
 
--- where nobody was ended, the keeper has looked
-pub nothing_noted : (v w : LockedState) (old new : KeeperState) → HasNotedEnd v w old new → IsUnchanged v.store w.store → (new.made ≡ old.made) × (new.seen ≡ v.signed)
-nothing_noted v w old new noted same =
-    let none = got_more v.store.entries w.store.entries [] (same.entries ∙ sym (append-nil v.store.entries)) in (
+-- where the store got no entry, the keeper has looked
+pub nothing_got : (v w : LockedState) (old new : KeeperState) → HasNotedEnd v w old new → w.store.entries ≡ v.store.entries → (new.made ≡ old.made) × (new.seen ≡ v.signed)
+nothing_got v w old new noted same =
+    let none = got_more v.store.entries w.store.entries [] (same ∙ sym (append-nil v.store.entries)) in (
       noted.made ∙ ap (λ (l : List Entry). old.made ++ l) none ∙ append-nil old.made,
       noted.seen ∙ noted.signed ∙ ap (λ (l : List Entry). v.signed ++ sign_all Keeper l) none ∙ append-nil v.signed,
     )
+
+pub nothing_noted : (v w : LockedState) (old new : KeeperState) → HasNotedEnd v w old new → IsUnchanged v.store w.store → (new.made ≡ old.made) × (new.seen ≡ v.signed)
+nothing_noted v w old new noted same = nothing_got v w old new noted same.entries
 
 pub none_ended : {T : Type 0} (r : Result T ApplyFault) (v w : LockedState) (old new : KeeperState) → Sees v.signed (keeper_knowledge old) → HasNotedEnd v w old new → OnErr r (IsUnchanged v.store w.store) → OnErr r (KeeperLooked old new × (new.next ≡ old.next))
 none_ended (Ok t) v w old new sees noted same = tt

@@ -275,7 +275,7 @@ module _ (start : SharedStart) (s : StoreState) (signed : List Signed) (on : Goe
 -- ---- who retires
 
 -- who made the last entry was made before it
-last_low : (g : ProtectionGraph) (front : List Entry) (e : Entry) → IsSound g → IsLegal g (front ++ e ∷ []) → e.worker < (graph_after g (front ++ e ∷ [])).made
+pub last_low : (g : ProtectionGraph) (front : List Entry) (e : Entry) → IsSound g → IsLegal g (front ++ e ∷ []) → e.worker < (graph_after g (front ++ e ∷ [])).made
 last_low g front e sound legal =
     let parts = IsLegal-cut g front (e ∷ []) legal in
     let then : ProtectionGraph = graph_after g front in

@@ -96,7 +96,8 @@ entries_fit old new x count places left is long fits =
     let all = ap (λ (es : List Entry). length es) left.entries in
     omega (arith, row, all, length-append old.entries (leaving (graph_of_store old) x), is, long, fits)
 
-none_spawned : (x : ℕ) (row : List (ℕ × RightSet)) → spawned (map (removal x) row ++ retiring x ∷ []) ≡ 0
+-- and they make no subject
+pub none_spawned : (x : ℕ) (row : List (ℕ × RightSet)) → spawned (map (removal x) row ++ retiring x ∷ []) ≡ 0
 none_spawned x [] = let last = sum_by-cons (λ e. one (is_spawn e)) (retiring x) [] in omega (arith, last)
 none_spawned x (e ∷ row) =
     let rest = none_spawned x row in

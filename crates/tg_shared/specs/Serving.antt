@@ -62,7 +62,8 @@ pub record HasNoted (old new : LockedState) (before after : SessionState) : Type
   pub signed : new.signed ≡ old.signed ++ sign_all (Session before.worker) (entries_more old new)
   pub seen : after.made ≢ before.made → after.seen ≡ new.signed
 
--- The keeper noted the entries that the store got, of an end or a withdrawal, as its own, and has then seen all.
+-- The keeper noted the entries that the store got in one of its calls as its own, and has then seen all. The call is an end, a
+-- withdrawal, a parking or an unparking.
 pub record HasNotedEnd (old new : LockedState) (before after : KeeperState) : Type 0 where
   pub signed : new.signed ≡ old.signed ++ sign_all Keeper (entries_more old new)
   pub made : after.made ≡ before.made ++ entries_more old new

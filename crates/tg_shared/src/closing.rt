@@ -39,8 +39,8 @@ impl<L: Round, P: Payload> Locked<L, P> {
 
     /// Ends a round. It hands out the store if all sessions are given back and their receipts are right. The journal
     /// has then grown by as many entries as there are receipts, and they are shared out among the sessions. The entries
-    /// that the keeper made for workers, in ends and withdrawals, are counted beside the receipts, and shared out to
-    /// nobody.
+    /// that the keeper made for workers are counted beside the receipts, and shared out to nobody. They are entries of
+    /// ends, withdrawals, parkings and unparkings.
     ///
     /// `SessionsMissing` is looked for first. It is returned exactly if the sessions count for fewer than were made.
     /// `ReceiptMismatch` is returned exactly if they count for as many, and may not close. The store and the sessions

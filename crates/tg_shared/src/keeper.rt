@@ -1,28 +1,30 @@
-//! Who may take a shared store's entries, see all of its graph, end a worker, and withdraw rights.
-ghost use Rattle.std.specs.Prelude.{◌≡◌, ◌≢◌, ◌+◌, ◌++◌, ◌<◌, ◌∷◌, ◌^◌, [], true, Err, IfErr, IfOk, OnErr, length, max, min};
+//! Who may take a shared store's entries, see all of its graph, end a worker, withdraw rights, and park a user.
+ghost use Rattle.std.specs.Prelude.{◌≡◌, ◌≢◌, ◌+◌, ◌++◌, ◌<◌, ◌≤◌, ◌∷◌, ◌^◌, [], true, Err, IfErr, IfOk, OnErr, drop, length, max, min};
 ghost use Rattle.tg_could.specs.Reached.{IsReachedPicture};
 ghost use Rattle.tg_store.specs.Store.{graph_of_store};
 ghost use Rattle.tg_passes.specs.declared.signed.Maker.TheVariants as maker;
 ghost use Rattle.tg_passes.specs.Passes.{fresh_pass, sign, sign_all};
 ghost use Rattle.tg_shared.specs.Sessions.{AtSeen, HasEnded, IsNobodyAtSeen, KeeperLooked};
 
+use crate::locked::entries_from;
 use crate::mirror::Mirror;
-use crate::round::{HandedOut, Rolled, Round};
+use crate::round::{HandedOut, Register, Rolled, Round};
 use crate::shared::SharedStore;
 use std::alloc::{AllocError, Global};
 use std::marker::Model;
 use std::sync::Wait;
+use std::sync::ledger::Share;
 use tg_journal::{Entry, Journal};
 use tg_model::Picture;
 use tg_passes::{Pass, Roll};
 use tg_payload::Payload;
 use tg_store::ApplyFault;
 
-/// The owner of a keeper may take the entries of a shared store, see its whole graph, end a worker, and withdraw rights
-/// from workers. A shared store has one keeper. Only [`SharedStore::new`] makes it, with the sessions. So the maker of
-/// the shared store decides who has the keeper. A session can neither take the journal away nor end another session's
-/// worker. A keeper takes no memory. [`close`](crate::close) works without it, because the locked value counts the
-/// keeper's entries.
+/// The owner of a keeper may take the entries of a shared store, see its whole graph, end a worker, withdraw rights
+/// from workers, and park and unpark users. A shared store has one keeper. Only [`SharedStore::new`] makes it, with the
+/// sessions. So the maker of the shared store decides who has the keeper. A session can neither take the journal away
+/// nor end another session's worker. A keeper takes no memory. [`close`](crate::close) works without it, because the
+/// locked value counts the keeper's entries.
 ///
 /// A keeper knows where its last part of the journal ended, and which entries it made. Only its own calls change this
 /// knowledge. Each of its calls of the store looks at all entries since the store was shared. So the keeper knows of
@@ -67,7 +69,8 @@ impl<L: Round> Keeper<L> {
         self.next.number()
     }
 
-    /// How many entries it made for workers, in ends and withdrawals. No session has a receipt of them.
+    /// How many entries it made for workers, in ends, withdrawals, parkings and unparkings. No session has a receipt of
+    /// them.
     pub fn entered(&self) -> u64
         ensures { result ≡ length self.now.made }
     {
@@ -94,6 +97,36 @@ impl<L: Round> Keeper<L> {
     {
         roll.note(&mut self.pass, entry);
         self.entered += 1;
+    }
+
+    // Notes the entries of a journal from a place on, which it made, after all others. It has seen all others. The book
+    // counts them, and they are added to the rest of the ledger. Returns how many they are.
+    pub(crate) fn note_from(
+        &mut self,
+        register: &mut Register<L>,
+        rest: &mut Share<L>,
+        journal: &Journal,
+        at: u64,
+    ) -> u64
+        requires place { (journal.now.start ≤ at) × (at ≤ length journal.now.entries) }
+        requires counted { register.old.book.total ≤ at }
+        requires seen { self.old.seen ≡ register.old.roll.signed }
+        requires amount { rest.old.amount ≡ length self.old.made }
+        requires part { 0 < rest.old.parts }
+        ensures number { result ≡ length (drop at journal.now.entries) }
+        ensures book { register.new.book.total ≡ register.old.book.total + result }
+        ensures roll { register.new.roll ≡ record { signed = register.old.roll.signed ++ sign_all maker.Keeper (drop at journal.now.entries); below = register.old.roll.below } }
+        ensures amount { rest.new.amount ≡ rest.old.amount + result }
+        ensures fits { rest.new.amount < 2 ^ 64 }
+        ensures parts { rest.new.parts ≡ rest.old.parts }
+        ensures keeper { self.new ≡ record { next = self.old.next; made = self.old.made ++ drop at journal.now.entries; seen = register.new.roll.signed } }
+    {
+        let count = journal.len() - at;
+        register.book.add(rest, count);
+        // It shows that so many entries were made, so their number is one.
+        register.book.audit(rest);
+        self.note_all(&mut register.roll, entries_from(journal, at));
+        count
     }
 
     /// Hands out the entries that the locked store holds, by one call of

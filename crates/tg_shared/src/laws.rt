@@ -3,6 +3,7 @@ ghost use Rattle.std.specs.Prelude.{◌≡◌, ◌+◌, ◌<◌, [], ℕ, List, 
 ghost use Rattle.std.specs.List.{All, AllPairs, Contains};
 ghost use Rattle.tg_rights.specs.RightSet.{RightSet};
 ghost use Rattle.tg_model.specs.declared.command.Deed.{Deed};
+ghost use Rattle.tg_model.specs.declared.reply.Denial.{Denial};
 ghost use Rattle.tg_model.specs.declared.reply.Reply.{Reply};
 ghost use Rattle.tg_passes.specs.declared.signed.Signed.{Signed};
 ghost use Rattle.tg_passes.specs.Passes.{BeginsWith, Sees};
@@ -13,10 +14,14 @@ ghost use Rattle.tg_journal.specs.History.{IsLegal};
 ghost use Rattle.tg_shared.specs.declared.receipt.Receipt.{Receipt};
 ghost use Rattle.tg_journal.specs.Journal.{Entries};
 ghost use Rattle.tg_shared.specs.Laws.{AreKeptInParts, ClosesOver, EndsOnly, GrowsInto, HasExactly, HasNotLeft, IsCountLeft, IsSpawnedIn, KnowsItsOwn, StaysWhole, WasAnswered, graph_up_to};
+ghost use Rattle.tg_shared.specs.Parking.{ChangesNothing, HasParked, HasUnparked, ParksOnly, UnparksOnly};
 ghost use Rattle.tg_shared.specs.Receipts.{AreParts, MatchParts, MatchesFrom, ReceiptsMatch, all_receipts};
 ghost use Rattle.tg_shared.specs.Sessions.{AreSharedOut, AtSeen, HasEnded, HasGrownBy, HasLooked, IsAnswered, IsHeldAtSeen, IsNobodyAtSeen, IsOnItsOwn, IsSubjectAtSeen, KeeperState, LeavesAtSeen, MayClose, MayCloseWith, SessionState, SharedStart, count_of, graph_seen, held_from, knowledge, parts_of, retired_behind, since, subjects_at};
 ghost use Rattle.tg_store.specs.Held.{IsHeldOver};
 ghost use Rattle.tg_store.specs.Leaving.{HasLeft};
+ghost use Rattle.tg_store.specs.declared.parking.Parked.TheVariants as parked;
+ghost use Rattle.tg_store.specs.declared.parking.Parking.{Parking};
+ghost use Rattle.tg_store.specs.Parking.{IsParked};
 ghost use Rattle.tg_store.specs.Store.{IsFaithful, StoreState, graph_of_store};
 ghost use Rattle.tg_shared.specs.Withdrawing.{HasWithdrawn, StaysAway, WithdrawsOnly};
 
@@ -163,6 +168,33 @@ pub fn withdrawn_rights_stay_away()
     // This law says so of one graph.
     withdrawn_rights_never_come_back();
 }
+
+/// A user whom the keeper parks stops being a subject, and nobody else does. The graph after the entries that the
+/// keeper has then seen is the graph before, but for the parking. In it the account holds what the user held, and the
+/// user has left. If the host's grant was denied, both graphs are the same.
+pub fn a_parking_ends_only_the_user()
+    ensures done { (start : SharedStart) (old new : KeeperState) (p : Parking) (edges : ℕ) →
+        HasParked start p old new (parked.Done edges) → ParksOnly start new.seen p }
+    ensures denied { (start : SharedStart) (old new : KeeperState) (p : Parking) (denial : Denial) →
+        HasParked start p old new (parked.Denied denial) → ChangesNothing start new.seen }
+{}
+
+/// The keeper's unparking ends nobody. The same vertices are subjects before and after. The graph after the entries
+/// that the keeper has then seen is the graph before, but for the unparking. In it the user holds what the account
+/// holds, and the host holds nothing over the account. If the host's grant was denied, both graphs are the same.
+pub fn an_unparking_ends_nobody()
+    ensures done { (start : SharedStart) (old new : KeeperState) (p : Parking) (edges : ℕ) →
+        HasUnparked start p old new (parked.Done edges) → UnparksOnly start new.seen p }
+    ensures denied { (start : SharedStart) (old new : KeeperState) (p : Parking) (denial : Denial) →
+        HasUnparked start p old new (parked.Denied denial) → ChangesNothing start new.seen }
+{}
+
+/// A user who was parked is never a subject of the store again, whatever entries follow. So each later call of its
+/// session reports that there is no such worker.
+pub fn who_was_parked_stays_away()
+    ensures { (old new later : StoreState) (p : Parking) (edges : ℕ) → IsFaithful old → IsParked p old new edges →
+        GrowsInto new later → ¬ IsSubject (graph_of_store later) p.user }
+{}
 
 /// A collection of a session returns the number of vertices of a store with exactly these entries. After a full
 /// collection it is the number of vertices that can be reached in the graph after them.

@@ -37,9 +37,14 @@
 //! the close.
 //!
 //! **A client that hangs.** The keeper ends its worker by its name, if the store was shared so ([`Keeper::end`]). It
-//! withdraws rights from workers too ([`Keeper::withdraw`]). In the roll the entries of an end and of a withdrawal are
-//! the keeper's. So the owner of the keeper knows at the close who made each entry ([`close_with`]). A store is also
-//! recovered if a session is lost ([`reclaim`]). Then the returned receipts are at most as many as the entries.
+//! withdraws rights from workers too ([`Keeper::withdraw`]). In the roll the entries of an end, of a withdrawal, and of
+//! a parking are the keeper's. So the owner of the keeper knows at the close who made each entry ([`close_with`]). A
+//! store is also recovered if a session is lost ([`reclaim`]). Then the returned receipts are at most as many as the
+//! entries.
+//!
+//! **A client that is away.** The keeper parks its worker in an account ([`Keeper::park`]), so that at most 64 workers
+//! are active at a time. The client comes back as a new worker, which a session spawns and the keeper unparks
+//! ([`Keeper::unpark`]).
 //!
 //! The book is the book of a ledger ([`std::sync::ledger`]). After a successful close there are as many receipts as
 //! entries ('Why the count is known at the close' in docs/inside/ARCHITECTURE.md).
@@ -61,6 +66,7 @@ pub mod laws;
 mod locked;
 mod making;
 mod mirror;
+mod parking;
 mod receipt;
 mod round;
 mod session;

@@ -85,7 +85,8 @@ impl<L: Round, P: Payload> Locked<L, P> {
         self.sessions
     }
 
-    /// How many entries the keeper made for workers, in ends and withdrawals. No session has a receipt of them.
+    /// How many entries the keeper made for workers, in ends, withdrawals, parkings and unparkings. No session has a
+    /// receipt of them.
     pub fn entered(&self) -> u64
         ensures { result ≡ self.now.entered }
     {

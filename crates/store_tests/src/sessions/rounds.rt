@@ -7,6 +7,7 @@ ghost use Rattle.tg_shared.specs.Sessions.{MayShare};
 
 use super::batches::{BatchesSeen, batches_of};
 use super::hands::{TurnsSeen, turns_of};
+use super::parks::{ParksSeen, parks_of};
 use super::story::{StoryTold, tell};
 use super::unasked::{act, collect};
 use std::alloc::Global;
@@ -25,6 +26,8 @@ pub(crate) enum RoundWay {
     Batches,
     /// the story of two workers is played, and the store is closed with its keeper
     Tells,
+    /// the keeper parks a user and unparks a new one, and the store is closed with its keeper
+    Parks,
     /// all calls are made but collections, and the store is closed with its keeper
     Acts,
     /// the store is closed at once
@@ -44,6 +47,8 @@ pub(crate) struct RoundSeen {
     pub(crate) batches: Option<BatchesSeen>,
     /// what the story came to
     pub(crate) told: Option<StoryTold>,
+    /// what the parkings were answered
+    pub(crate) parks: Option<ParksSeen>,
     /// how many entries the keeper made, and at which place its last part ended
     pub(crate) of_keeper: [u64; 2],
 }
@@ -53,6 +58,7 @@ const NOTHING: RoundSeen = RoundSeen {
     turns: None,
     batches: None,
     told: None,
+    parks: None,
     of_keeper: [0, 0],
 };
 
@@ -140,6 +146,7 @@ fn play<L: Round, R: Wait>(
         RoundWay::Hands => seen.turns = turns_of(rt, &kept.store, sessions),
         RoundWay::Batches => seen.batches = batches_of(rt, alloc, &kept.store, sessions),
         RoundWay::Tells => seen.told = tell(rt, alloc, kept, sessions),
+        RoundWay::Parks => seen.parks = parks_of(rt, alloc, kept, sessions),
         RoundWay::Acts => act(rt, alloc, kept, sessions),
         RoundWay::Closes => {}
         RoundWay::Loses => drop(sessions.pop()),
@@ -157,7 +164,9 @@ fn taken_back<L: Round>(
 ) -> Option<Store<CellPayload>> {
     match way {
         RoundWay::Loses => reclaim(store, sessions).ok(),
-        RoundWay::Tells | RoundWay::Acts => close_with(store, sessions, keeper).ok(),
+        RoundWay::Tells | RoundWay::Parks | RoundWay::Acts => close_with(
+            store, sessions, keeper,
+        ).ok(),
         _ => close(store, sessions).ok(),
     }
 }
