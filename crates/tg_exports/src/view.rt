@@ -1,5 +1,5 @@
 //! The functions that C calls on a view.
-ghost use Rattle.std.specs.Prelude.{◌≡◌, false, true};
+ghost use Rattle.std.specs.Prelude.{◌≡◌, false, true, if◌then◌else◌};
 ghost use Rattle.tg_c.specs.Statuses.{TellsNumber, status_of};
 ghost use Rattle.tg_c.specs.View.{Follows, Glances, GlancesAsIf, OpensView};
 
@@ -87,11 +87,18 @@ pub extern "C" fn tg_view_follow(
 {
     match calls::follow(alloc, view, edge) {
         Ok(followed) => {
-            *is_followed = if followed { 1 } else { 0 };
+            *is_followed = flag(followed);
             DONE
         }
         Err(refusal) => refusal.status(),
     }
+}
+
+// 1 if it is so, and else 0.
+fn flag(is: bool) -> u64
+    ensures { result ≡ (if is then 1 else 0) }
+{
+    if is { 1 } else { 0 }
 }
 
 /// Gives back all memory of a view. The place is closed then, whether it was open or not.

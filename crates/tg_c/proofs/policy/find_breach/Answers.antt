@@ -3,7 +3,6 @@ use Rattle.std.proofs.lemmas.List.{get_or_default}
 use Rattle.std.proofs.lemmas.List.Elements.{AllWithin-more}
 use Rattle.tg_could.specs.Reached.{with_edges}
 use Rattle.tg_could.specs.declared.reached.ReachedAnswer.{ReachedAnswer}
-use Rattle.tg_c.specs.Could.{kind_in}
 use Rattle.tg_c.specs.Policy.{IsFirstBreach, IsNeverTold, IsToldTo}
 use Rattle.tg_c.specs.declared.forms.QuestionIn.{QuestionIn}
 use Rattle.tg_c.proofs.policy.find_breach.Goals as goal

@@ -1,9 +1,8 @@
 use Rattle.std.proofs.Common.{◌≡◌, ◌∙◌, inr, subst, sym, ap, is_some}
 use Rattle.std.proofs.lemmas.Result.{IfErr-weaker, IfOk-weaker}
 use Rattle.tg_model.specs.declared.edge.Edge.{Edge}
-use Rattle.tg_c.specs.Calls.{AreMet}
 use Rattle.tg_c.specs.Forms.{edge_in, label_or_none}
-use Rattle.tg_c.specs.View.{IsFollowed, IsFollowedIn, IsNotFollowed, IsNotFollowedIn, asked_to_follow}
+use Rattle.tg_c.specs.View.{IsFollowed, IsFollowedIn, IsNotFollowed, IsNotFollowedIn}
 use Rattle.tg_c.proofs.view.calls.follow.Goals as goal
 
 pub returns-clause-told : goal.returns-clause-told

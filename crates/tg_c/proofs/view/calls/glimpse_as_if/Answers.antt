@@ -1,6 +1,5 @@
 use Rattle.std.proofs.Common.{◌∙◌, List, IfOk, IfErr, subst}
 use Rattle.tg_model.specs.declared.edge.Edge.{Edge}
-use Rattle.tg_c.specs.declared.refusal.CallRefusal.{CallRefusal}
 use Rattle.tg_c.specs.View.{IsGlimpseAsIf, IsNoGlimpse}
 use Rattle.tg_c.proofs.view.calls.glimpse_as_if.Goals as goal
 
