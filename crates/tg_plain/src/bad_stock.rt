@@ -1,11 +1,10 @@
 //! Why a text names no boxes.
 
-use std::fmt::{self, Formatter};
 use tg_text::MOST_BOXES;
 use thiserror::Error;
 
 /// Why a text names no boxes. Characters are counted from 1.
-#[derive(Clone, Copy, Error)]
+#[derive(Clone, Copy, Debug, Error)]
 pub enum StockReason {
     /// The character neither names a kind of box nor goes on with a number.
     #[error("character {at} of --stock is none of c, s, m and l")]
@@ -16,13 +15,6 @@ pub enum StockReason {
     /// There are over 100,000 boxes.
     #[error("--stock names over 100000 boxes")]
     TooMany,
-}
-
-// It shows the message. A derived `Debug` takes several times as long to prove.
-impl fmt::Debug for StockReason {
-    fn fmt<W: fmt::Write>(&self, f: &mut Formatter<W>) -> fmt::Result {
-        fmt::Display::fmt(self, f)
-    }
 }
 
 /// Why a text names no boxes, if `read_stock` of `tg_text` has found that it names none.

@@ -2,14 +2,13 @@
 
 use crate::bad_stock::StockReason;
 use std::alloc::AllocError;
-use std::fmt::{self, Formatter};
 use std::io;
 use tg_entries::TextFault;
 use tg_model::OpeningFault;
 use thiserror::Error;
 
 /// Why a script isn't run, or not as far as its end, or why a history isn't replayed.
-#[derive(Clone, Copy, Error)]
+#[derive(Clone, Copy, Debug, Error)]
 pub enum PlainFault {
     /// There was no memory for a line or the graph.
     #[error("out of memory")]
@@ -78,13 +77,6 @@ pub enum PlainFault {
     /// A standard stream failed.
     #[error(transparent)]
     Stream(#[from] io::Error),
-}
-
-// It shows the message. A derived `Debug` takes several times as long to prove.
-impl fmt::Debug for PlainFault {
-    fn fmt<W: fmt::Write>(&self, f: &mut Formatter<W>) -> fmt::Result {
-        fmt::Display::fmt(self, f)
-    }
 }
 
 impl PlainFault {
