@@ -174,8 +174,8 @@ def is_short(graph, x, y):
 
 
 def without_names(word):
-    """The word of an answer without the number of names more that its lines need. The graph doesn't decide this number: it depends
-    on the order in which edges are found."""
+    """The word of an answer without the number of names more that its lines need. The graph doesn't decide this number. The entries
+    of a history are read from the last to the first, so its edges are found in another order than those of the script."""
     return "could" if word.startswith("could, with ") else word
 
 
