@@ -18,7 +18,7 @@ use Rattle.tg_could.specs.Reached.{IsLedTo, IsReachedPicture, JoinReached, Joins
 use Rattle.tg_could.specs.Turns.{NeverHolds}
 use Rattle.tg_could.specs.View.{FollowsEdge, IsViewAfter, IsViewOf, IsViewStill, shown_with}
 use Rattle.tg_could.proofs.ReachedLaws.{Agree, Known, never_on, reached_shown, relabelled, shown_reached}
-use Rattle.tg_c.specs.View.{AreShown, IsFollowed, IsShownIn, IsSightOf, JoinsSeen, is_seen}
+use Rattle.tg_c.specs.View.{AreShown, SightFollows, IsShownIn, IsSightOf, JoinsSeen, is_seen}
 use Rattle.tg_c.specs.declared.view.sight.ReachedView.{ReachedView}
 use Rattle.tg_c.specs.declared.view.sight.Sight.{Sight}
 use Rattle.tg_could.proofs.AsIfLaws.{agrees, held_edge, label_in-append, more, reached_before, reached_then, seen, seen_by, supposed_sound}
@@ -310,7 +310,7 @@ one_joined silent g sight is e both = record { from = (is.reached e.from).0 both
 
 -- the view went on with the edge, or not
 pub sight_follows : (old new : Sight) (s t : ReachedView) (e : Edge) (followed : Bool) → old.seen ≡ Some s → new.seen ≡ Some t → new.made ≡ old.made → t.reached ≡ s.reached
-    → JoinsSeen old.seen e → FollowsEdge s.view e (Ok followed) t.view → IsFollowed old e new followed
+    → JoinsSeen old.seen e → FollowsEdge s.view e (Ok followed) t.view → SightFollows old e new followed
 sight_follows old new s t e true was now made keys both follows = λ silent g is.
     let joins = one_joined silent g old is e both in
     (joins, sight_after silent g old is new s t was now made keys e joins follows.1)

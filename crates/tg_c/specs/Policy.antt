@@ -15,7 +15,7 @@ use Rattle.tg_c.specs.declared.answer.AnswerPlace.{AnswerPlace}
 use Rattle.tg_c.specs.declared.forms.EdgeIn.{EdgeIn}
 use Rattle.tg_c.specs.declared.forms.QuestionIn.{QuestionIn}
 use Rattle.tg_c.specs.declared.place.StorePlace.{StorePlace}
-use Rattle.tg_c.specs.declared.policy.Breach.{Breach}
+use Rattle.tg_c.specs.declared.policy.PolicyBreach.{PolicyBreach}
 use Rattle.tg_c.specs.declared.refusal.CallRefusal.{CallRefusal}
 use Rattle.tg_c.specs.declared.refusal.CallRefusal.TheVariants as refusal
 use Rattle.tg_c.specs.declared.view.sight.Sight.{Sight}
@@ -45,16 +45,16 @@ abbrev pub IsToldTo : List ℕ → ProtectionGraph → QuestionIn → ReachedAns
 IsToldTo silent g q told = (right : Right) → right_of_bit q.right ≡ Some right → IsToldOf silent g q.x right q.y told
 
 -- Nothing that is asked before this place ever comes about. The answer is that to the question at the place, and isn't never.
-pub record IsFirstBreach (silent : List ℕ) (g : ProtectionGraph) (questions : List QuestionIn) (place : ℕ) (told : ReachedAnswer) : Type 0 where
+pub record IsBreachOfPolicy (silent : List ℕ) (g : ProtectionGraph) (questions : List QuestionIn) (place : ℕ) (told : ReachedAnswer) : Type 0 where
   pub before : AllWithin (IsNeverTold silent g) questions 0 place
   pub inside : place < length questions
   pub answer : (d : QuestionIn) → IsToldTo silent g (slice_index_or questions place d) told
   pub more : kind_in told ≢ 0
 
 -- nothing that is asked ever comes about, or this is the first question that isn't answered so
-abbrev pub IsKeptOrBroken : List ℕ → ProtectionGraph → List QuestionIn → Option Breach → Type 0
-IsKeptOrBroken silent g questions None = All (IsNeverTold silent g) questions
-IsKeptOrBroken silent g questions (Some breach) = IsFirstBreach silent g questions breach.place breach.answer.value.told
+abbrev pub IsPolicyOutcome : List ℕ → ProtectionGraph → List QuestionIn → Option PolicyBreach → Type 0
+IsPolicyOutcome silent g questions None = All (IsNeverTold silent g) questions
+IsPolicyOutcome silent g questions (Some breach) = IsBreachOfPolicy silent g questions breach.place breach.answer.value.told
 
 -- It holds of each graph with these edges too of which a scene has the picture and a view. A scene has the picture of what is reached
 -- without the edges.
@@ -66,13 +66,13 @@ OnSupposed picture silent edges sight holds = (g : ProtectionGraph) → IsSound 
 
 -- The outcome on a graph with the supposed edges. All silent subjects are active subjects, and each edge joins two vertices that are
 -- reached.
-pub record IsPolicyOn (g : ProtectionGraph) (silent : List ℕ) (as_if : List EdgeIn) (questions : List QuestionIn) (told : Option Breach) : Type 0 where
+pub record IsPolicyOn (g : ProtectionGraph) (silent : List ℕ) (as_if : List EdgeIn) (questions : List QuestionIn) (told : Option PolicyBreach) : Type 0 where
   pub active : AreActive g silent
   pub joined : JoinReached g (map edge_in as_if)
-  pub told_of : IsKeptOrBroken silent (with_edges g (map edge_in as_if)) questions told
+  pub told_of : IsPolicyOutcome silent (with_edges g (map edge_in as_if)) questions told
 
 -- the outcome of a policy of a store in its place, whether the answer's place was open or not
-pub record IsPolicyAnswered (place : StorePlace) (is_open : Bool) (silent : List ℕ) (as_if : List EdgeIn) (questions : List QuestionIn) (told : Option Breach) : Type 0 where
+pub record IsPolicyAnswered (place : StorePlace) (is_open : Bool) (silent : List ℕ) (as_if : List EdgeIn) (questions : List QuestionIn) (told : Option PolicyBreach) : Type 0 where
   pub met : AreMet (asked_of_policy place is_open as_if questions)
   pub told_on : (g : ProtectionGraph) → StandsFor (state_in place) g → IsPolicyOn g silent as_if questions told
 
@@ -85,7 +85,7 @@ IsRefusedPolicy place is_open silent as_if questions why =
 
 -- What C gets. The place is that of the first breach, and the answer's place has its answer. If there is no breach, the place is the
 -- number of questions, and the answer's place is as it was.
-abbrev pub TellsBreach : List QuestionIn → ℕ → AnswerPlace → AnswerPlace → Option Breach → Type 0
+abbrev pub TellsBreach : List QuestionIn → ℕ → AnswerPlace → AnswerPlace → Option PolicyBreach → Type 0
 TellsBreach questions at before after None = (at ≡ length questions) × (after ≡ before)
 TellsBreach questions at before after (Some breach) = (at ≡ breach.place) × (after.is_open ≡ true) × (after.handle.opened ≡ breach.answer.value)
 
@@ -101,6 +101,6 @@ place_out old new = record { old = old; new = new }
 pub record AsksPolicy (old new : StorePlace) (silent : List ℕ) (as_if : List EdgeIn) (questions : List QuestionIn) (at : PlaceOut) (before after : AnswerPlace) (status : ℕ) : Type 0 where
   pub stays : new.is_open ≡ old.is_open
   pub same : old.is_open ≡ true → state_in new ≡ state_in old
-  pub told : status ≡ 0 → (outcome : Option Breach) × IsPolicyAnswered old before.is_open silent as_if questions outcome × TellsBreach questions at.new before after outcome
+  pub told : status ≡ 0 → (outcome : Option PolicyBreach) × IsPolicyAnswered old before.is_open silent as_if questions outcome × TellsBreach questions at.new before after outcome
   pub refused : status ≢ 0 → IsStatusWhere (IsRefusedPolicy old before.is_open silent as_if questions) status
   pub kept : status ≢ 0 → (after ≡ before) × (at.new ≡ at.old)

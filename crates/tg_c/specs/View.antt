@@ -169,9 +169,9 @@ pub record GlancesAsIf (old new : ViewPlace) (as_if : List EdgeIn) (x bits y : �
 
 -- On each graph of which the view was one, the edge joins two different vertices that are reached. The view is then one of the graph
 -- with the edge, if it was followed, and still one of the same graph otherwise.
-abbrev pub IsFollowed : Sight → Edge → Sight → Bool → Type 0
-IsFollowed old edge new true = (silent : List ℕ) (g : ProtectionGraph) → IsSightOf silent g old → JoinsReached g edge × IsSightOf silent (with_edges g (edge ∷ [])) new
-IsFollowed old edge new false = (silent : List ℕ) (g : ProtectionGraph) → IsSightOf silent g old → JoinsReached g edge × IsSightOf silent g new
+abbrev pub SightFollows : Sight → Edge → Sight → Bool → Type 0
+SightFollows old edge new true = (silent : List ℕ) (g : ProtectionGraph) → IsSightOf silent g old → JoinsReached g edge × IsSightOf silent (with_edges g (edge ∷ [])) new
+SightFollows old edge new false = (silent : List ℕ) (g : ProtectionGraph) → IsSightOf silent g old → JoinsReached g edge × IsSightOf silent g new
 
 -- Why it wasn't followed: memory ran out, or it doesn't join two different vertices that are reached. The view is one of the same graph.
 abbrev pub IsNotFollowed : Sight → Edge → Sight → CallRefusal → Type 0
@@ -184,7 +184,7 @@ asked_to_follow place edge = demand (IsSome (label_at edge.rights)) refusal.BadR
 -- the view in its place follows the edge or not
 pub record IsFollowedIn (old : ViewPlace) (edge : EdgeIn) (new : ViewPlace) (followed : Bool) : Type 0 where
   pub met : AreMet (asked_to_follow old edge)
-  pub view : IsFollowed old.handle.opened (edge_in edge) new.handle.opened followed
+  pub view : SightFollows old.handle.opened (edge_in edge) new.handle.opened followed
 
 -- Why it isn't. Either a demand isn't met, the first one is the reason, and the view is as it was. Or all are met, and the reason is the
 -- edge or lack of memory.
@@ -194,7 +194,7 @@ IsNotFollowedIn old edge new why =
     ⊎ (AreMet (asked_to_follow old edge) × IsNotFollowed old.handle.opened (edge_in edge) new.handle.opened why)
 
 -- A view that is to follow an edge.
-pub record Follows (old new : ViewPlace) (edge : EdgeIn) (before after : ℕ) (status : ℕ) : Type 0 where
+pub record FollowsInPlace (old new : ViewPlace) (edge : EdgeIn) (before after : ℕ) (status : ℕ) : Type 0 where
   pub stays : new.is_open ≡ old.is_open
   pub told : status ≡ 0 → (followed : Bool) × IsFollowedIn old edge new followed × (after ≡ (if followed then 1 else 0))
   pub refused : status ≢ 0 → IsStatusWhere (IsNotFollowedIn old edge new) status

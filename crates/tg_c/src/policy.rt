@@ -2,7 +2,7 @@
 ghost use Rattle.std.specs.Prelude.{◌≡◌, ◌≢◌, ◌==◌, IfOk, IfErr, IfNone, IfSome, MatchResult};
 ghost use Rattle.tg_c.specs.Could.{kind_in};
 ghost use Rattle.tg_c.specs.Inner.Stores.{KeepsStore};
-ghost use Rattle.tg_c.specs.Policy.{AskRights, IsKeptOrBroken, IsNeverTold, IsPolicyAnswered, IsRefusedPolicy, IsToldTo, OnSupposed};
+ghost use Rattle.tg_c.specs.Policy.{AskRights, IsPolicyOutcome, IsNeverTold, IsPolicyAnswered, IsRefusedPolicy, IsToldTo, OnSupposed};
 
 use crate::forms::{EdgeIn, QuestionIn};
 use crate::held::Holder;
@@ -19,7 +19,7 @@ use tg_rights::Right;
 
 /// The first question of a policy that isn't answered never.
 #[derive(Drop)]
-pub struct Breach {
+pub struct PolicyBreach {
     /// The place of the question in the list.
     pub place: u64,
     /// The answer to it, in a box of its own.
@@ -45,7 +45,7 @@ pub fn first_breach(
     as_if: &[EdgeIn],
     questions: &[QuestionIn],
     is_open: bool,
-) -> Result<Option<Breach>, CallRefusal>
+) -> Result<Option<PolicyBreach>, CallRefusal>
     ensures kept { KeepsStore place.old place.new }
     ensures told { IfOk result (IsPolicyAnswered place.old is_open silent.now as_if.now questions.now) }
     ensures refused { IfErr result (IsRefusedPolicy place.old is_open silent.now as_if.now questions.now) }
@@ -88,7 +88,7 @@ impl LawStore {
         silent: &[u64],
         as_if: &[EdgeIn],
         questions: &[QuestionIn],
-    ) -> Result<Option<Breach>, CallRefusal>
+    ) -> Result<Option<PolicyBreach>, CallRefusal>
         requires { HaveLabels as_if.now }
         ensures { IsAnsweredOn (graph_of_store self.now.store) silent.now as_if.now
             (IsPolicyOn (graph_of_store self.now.store) silent.now as_if.now questions.now) result }
@@ -112,15 +112,15 @@ fn find_breach(
     as_if: &[Edge],
     sight: &Sight,
     questions: &[QuestionIn],
-) -> Result<Option<Breach>, CallRefusal>
+) -> Result<Option<PolicyBreach>, CallRefusal>
     ensures told { IfOk result (λ told. OnSupposed scene.now.picture.now scene.now.silent.now as_if.now sight.now
-        (λ g. IsKeptOrBroken scene.now.silent.now g questions.now told)) }
+        (λ g. IsPolicyOutcome scene.now.silent.now g questions.now told)) }
     ensures refused { IfErr result (λ why. why ≡ CallRefusal.OutOfMemory) }
 {
     for (place, question) in questions.iter().enumerate() {
         if let Some(told) = unless_never(alloc, scene, as_if, sight, *question)? {
             let answer = Box::new(alloc, Outlook { told })?;
-            return Ok(Some(Breach {
+            return Ok(Some(PolicyBreach {
                 place: place as u64,
                 answer,
             }));

@@ -1,7 +1,7 @@
 //! The functions that C calls on a view.
 ghost use Rattle.std.specs.Prelude.{◌≡◌, false, true, if◌then◌else◌};
 ghost use Rattle.tg_c.specs.Statuses.{TellsNumber, status_of};
-ghost use Rattle.tg_c.specs.View.{Follows, Glances, GlancesAsIf, OpensView};
+ghost use Rattle.tg_c.specs.View.{FollowsInPlace, Glances, GlancesAsIf, OpensView};
 
 use std::alloc::Global;
 use tg_c::forms::{EdgeIn, QuestionIn};
@@ -83,7 +83,7 @@ pub extern "C" fn tg_view_follow(
     edge: &EdgeIn,
     is_followed: &mut u64,
 ) -> u32
-    ensures { Follows view.old view.new edge.now is_followed.old is_followed.new result }
+    ensures { FollowsInPlace view.old view.new edge.now is_followed.old is_followed.new result }
 {
     match calls::follow(alloc, view, edge) {
         Ok(followed) => {

@@ -5,8 +5,8 @@ use Rattle.tg_space.specs.SpaceTable.{BlockLimits}
 use Rattle.tg_keep.specs.Lines.{history_of}
 use Rattle.tg_kept.specs.Reopening.{RefusesOpening}
 use Rattle.tg_kept.specs.declared.reopen.NotOpened.{NotOpened}
-use Rattle.tg_filed.specs.declared.fault.OpenFault.{OpenFault}
-use Rattle.tg_filed.specs.declared.fault.OpenFault.TheVariants as fault
+use Rattle.tg_filed.specs.declared.fault.PathOpenFault.{PathOpenFault}
+use Rattle.tg_filed.specs.declared.fault.PathOpenFault.TheVariants as fault
 
 -- The file had these bytes, and no store with these limits goes on from it, for this reason. Each content that a crash may leave says
 -- what the file said.
@@ -15,6 +15,6 @@ pub record RefusesBytes {D : Type 0} (g : disk.Ghosts D) (bytes : List ℕ) (lim
   pub crash : IsTrue (g.is_clean refused.disk) → (c : List ℕ) → g.may_leave refused.disk c → history_of c ≡ history_of bytes
 
 -- The file wasn't opened at its path, or it had these bytes, and no store goes on from it.
-abbrev pub RefusesFileAt : {D : Type 0} → disk.Ghosts D → List ℕ → BlockLimits → OpenFault D → Type 0
+abbrev pub RefusesFileAt : {D : Type 0} → disk.Ghosts D → List ℕ → BlockLimits → PathOpenFault D → Type 0
 RefusesFileAt g bytes limits (fault.Path why) = Unit {0}
 RefusesFileAt g bytes limits (fault.Kept refused) = RefusesBytes g bytes limits refused

@@ -13,7 +13,7 @@ use Rattle.tg_filed.specs.declared.fault.RunFault.TheVariants as fault
 
 -- The first store has exactly the opening and the entries that the bytes say. Each batch made of it what its commands make, one after
 -- the other.
-pub record RunsOn (is_clean : Bool) (bytes : List ℕ) (limits : BlockLimits) (batches : List AskedBatch) (new : StoreState) : Type 0 where
+pub record ServesFrom (is_clean : Bool) (bytes : List ℕ) (limits : BlockLimits) (batches : List AskedBatch) (new : StoreState) : Type 0 where
   pub first : StoreState
   pub opened : OpensAs is_clean bytes limits first
   pub served : ServesInTurn batches first new

@@ -11,7 +11,7 @@ use tg_store::Store;
 
 /// A kept store that was begun, and the names of its file.
 #[derive(Drop)]
-pub struct Begun<D: Disk, P: Payload> {
+pub struct BegunFile<D: Disk, P: Payload> {
     pub kept: Kept<D, P>,
     pub name: NewName,
 }
@@ -27,7 +27,7 @@ pub fn begin_kept<S: Start, P: Payload>(
     path: &str,
     start: S,
     store: Store<P>,
-) -> Result<Begun<FileFrom<S>, P>, BeginFault>
+) -> Result<BegunFile<FileFrom<S>, P>, BeginFault>
     requires { IsFirst store }
     ensures store { IfOk result (λ begun. begun.kept.store ≡ store) }
     ensures empty { IfOk result (λ begun. IsTrue (⟦<FileFrom<S> as Disk>⟧.is_clean begun.kept.file.disk) → S.Start.db ≡ []) }
@@ -49,7 +49,7 @@ fn give_name<D: Disk + Drop, P: Payload>(
     rt: &HostRuntime,
     mut name: NewName,
     kept: Kept<D, P>,
-) -> Result<Begun<D, P>, BeginFault>
+) -> Result<BegunFile<D, P>, BeginFault>
     ensures kept { IfOk result (λ begun. begun.kept ≡ kept) }
     ensures lasting { IfOk result (λ begun. IsTrue begun.name.is_lasting) }
 {
@@ -58,7 +58,7 @@ fn give_name<D: Disk + Drop, P: Payload>(
         return Err(BeginFault::Rename(error));
     }
     match name.sync_folder() {
-        Ok(()) => Ok(Begun { kept, name }),
+        Ok(()) => Ok(BegunFile { kept, name }),
         Err(error) => Err(BeginFault::Folder(error)),
     }
 }

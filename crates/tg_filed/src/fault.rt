@@ -31,18 +31,18 @@ impl From<PathFault> for BeginFault {
 
 /// Why no store goes on from the file at a path. Each message is written to follow the path and a colon.
 #[derive(Drop)]
-pub enum OpenFault<D: Disk> {
+pub enum PathOpenFault<D: Disk> {
     /// The file can't be opened at this path.
     Path(PathFault),
     /// The file was opened, and no store goes on from it.
     Kept(NotOpened<D>),
 }
 
-impl<D: Disk> fmt::Display for OpenFault<D> {
+impl<D: Disk> fmt::Display for PathOpenFault<D> {
     fn fmt<W: fmt::Write>(&self, f: &mut fmt::Formatter<W>) -> fmt::Result {
         match self {
-            OpenFault::Path(why) => write!(f, "{why}"),
-            OpenFault::Kept(refused) => write!(f, "{}", refused.why),
+            PathOpenFault::Path(why) => write!(f, "{why}"),
+            PathOpenFault::Kept(refused) => write!(f, "{}", refused.why),
         }
     }
 }
@@ -51,7 +51,7 @@ impl<D: Disk> fmt::Display for OpenFault<D> {
 #[derive(Drop)]
 pub enum RunFault<D: Disk> {
     /// No store goes on from the file.
-    Open(OpenFault<D>),
+    Open(PathOpenFault<D>),
     /// A batch couldn't be put into the file. Its replies weren't handed out.
     Lost(Lost<D>),
 }

@@ -32,7 +32,7 @@ mod run;
 #[cfg(test)]
 mod tests;
 
-pub use begin::{Begun, begin_kept};
-pub use fault::{BeginFault, OpenFault, RunFault};
+pub use begin::{BegunFile, begin_kept};
+pub use fault::{BeginFault, PathOpenFault, RunFault};
 pub use open::open_kept;
 pub use run::{AskedRun, serve_file};

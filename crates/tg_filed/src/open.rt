@@ -5,7 +5,7 @@ ghost use Rattle.tg_kept.specs.Keeping.{LeavesStore};
 ghost use Rattle.tg_kept.specs.Reopening.{OpensAs};
 ghost use Rattle.tg_filed.specs.Refused.{RefusesFileAt};
 
-use crate::fault::OpenFault;
+use crate::fault::PathOpenFault;
 use sqlite_disk::{Disk, Start};
 use tg_file::{FileFrom, open_disk};
 use tg_kept::{Kept, Reopened};
@@ -17,7 +17,7 @@ use tg_store::Limits;
 /// open. `Ok` has a store with exactly the opening and the entries that the file says, as
 /// [`Kept::open`](tg_kept::Kept::open) does.
 ///
-/// [`OpenFault::Path`] says that the file can't be opened at this path. Then it is as it was. [`OpenFault::Kept`] says
+/// [`PathOpenFault::Path`] says that the file can't be opened at this path. Then it is as it was. [`PathOpenFault::Kept`] says
 /// why no store goes on from it. A refusal that isn't of the disk leaves a file with the same history.
 pub fn open_kept<S: Start, P: Payload, M: Maker<P>>(
     rt: &HostRuntime,
@@ -25,7 +25,7 @@ pub fn open_kept<S: Start, P: Payload, M: Maker<P>>(
     start: S,
     limits: Limits,
     maker: &mut M,
-) -> Result<Reopened<FileFrom<S>, P>, OpenFault<FileFrom<S>>>
+) -> Result<Reopened<FileFrom<S>, P>, PathOpenFault<FileFrom<S>>>
     ensures store { IfOk result (λ back. OpensAs (⟦<FileFrom<S> as Disk>⟧.is_clean back.kept.file.disk) S.Start.db limits back.kept.store) }
     ensures left { IfOk result (λ back. LeavesStore ⟦<FileFrom<S> as Disk>⟧ back.kept.store back.kept.file.disk) }
     ensures ended { IfOk result (λ back. IsTrue (⟦<FileFrom<S> as Disk>⟧.is_clean back.kept.file.disk) → back.was_closed ≡ is_closed S.Start.db) }
@@ -33,10 +33,10 @@ pub fn open_kept<S: Start, P: Payload, M: Maker<P>>(
 {
     let disk = match open_disk(rt, path, start) {
         Ok(disk) => disk,
-        Err(why) => return Err(OpenFault::Path(why)),
+        Err(why) => return Err(PathOpenFault::Path(why)),
     };
     match Kept::open(rt.alloc(), disk, limits, maker) {
         Ok(back) => Ok(back),
-        Err(refused) => Err(OpenFault::Kept(refused)),
+        Err(refused) => Err(PathOpenFault::Kept(refused)),
     }
 }

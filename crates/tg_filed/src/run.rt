@@ -1,7 +1,7 @@
 //! A run over a file, from its opening on.
 ghost use Rattle.std.specs.Prelude.{◌≡◌, IfErr, IfOk, OnOk, length};
 ghost use Rattle.tg_kept.specs.Keeping.{LeavesStore};
-ghost use Rattle.tg_filed.specs.Runs.{EndsRun, RunsOn};
+ghost use Rattle.tg_filed.specs.Runs.{EndsRun, ServesFrom};
 
 use crate::fault::RunFault;
 use crate::open::open_kept;
@@ -37,7 +37,7 @@ pub fn serve_file<S: Start, P: Payload, M: Maker<P>>(
     asked: AskedRun,
     answered: &mut usize,
 ) -> Result<Kept<FileFrom<S>, P>, RunFault<FileFrom<S>>>
-    ensures served { IfOk result (λ kept. RunsOn (⟦<FileFrom<S> as Disk>⟧.is_clean kept.file.disk) S.Start.db asked.entry.limits asked.entry.batches.now kept.store) }
+    ensures served { IfOk result (λ kept. ServesFrom (⟦<FileFrom<S> as Disk>⟧.is_clean kept.file.disk) S.Start.db asked.entry.limits asked.entry.batches.now kept.store) }
     ensures all { OnOk result (answered.new ≡ length asked.entry.batches.now) }
     ensures left { IfOk result (λ kept. LeavesStore ⟦<FileFrom<S> as Disk>⟧ kept.store kept.file.disk) }
     ensures ended { IfErr result (EndsRun ⟦<FileFrom<S> as Disk>⟧ S.Start.db asked.entry.limits asked.entry.batches.now answered.new) }

@@ -4,7 +4,7 @@ ghost use Rattle.std.specs.List.{All, Contains};
 ghost use Rattle.tg_could.specs.Reached.{IsReachedPicture, JoinReached, with_edges};
 ghost use Rattle.tg_model.specs.Graph.{ProtectionGraph, IsSound};
 ghost use Rattle.tg_c.specs.Calls.{IsMemoryOr};
-ghost use Rattle.tg_c.specs.View.{AreShown, IsFollowed, IsGlimpse, IsGlimpseAsIf, IsNoGlimpse, IsNotFollowed, IsSightOf, JoinsSeen, is_seen, kind_seen};
+ghost use Rattle.tg_c.specs.View.{AreShown, SightFollows, IsGlimpse, IsGlimpseAsIf, IsNoGlimpse, IsNotFollowed, IsSightOf, JoinsSeen, is_seen, kind_seen};
 
 use crate::refusal::CallRefusal;
 use indexmap::IndexSet;
@@ -137,7 +137,7 @@ impl Sight {
     /// it joins two parts of the view, and then the view stays as it was. `BadEdge` is returned if the edge doesn't
     /// join two different vertices that active subjects reach. Takes memory for one edge.
     pub fn follow(&mut self, edge: Edge) -> Result<bool, CallRefusal>
-        ensures told { IfOk result (IsFollowed self.old edge self.new) }
+        ensures told { IfOk result (SightFollows self.old edge self.new) }
         ensures refused { IfErr result (IsNotFollowed self.old edge self.new) }
     {
         if !self.joins_seen(&edge) {

@@ -4,7 +4,7 @@ use Rattle.tg_model.specs.declared.edge.Edge.{Edge}
 use Rattle.tg_could.specs.Reached.{JoinReached, with_edges}
 use Rattle.tg_store.specs.Store.{graph_of_store}
 use Rattle.tg_c.specs.Could.{IsRefusedOn}
-use Rattle.tg_c.specs.Policy.{IsKeptOrBroken, IsPolicyOn}
+use Rattle.tg_c.specs.Policy.{IsPolicyOutcome, IsPolicyOn}
 use Rattle.tg_c.specs.declared.refusal.CallRefusal.TheVariants as refusal
 use Rattle.tg_c.proofs.CouldLaws.{not_answered}
 use Rattle.tg_c.proofs.law_store.LawStore.first_breach.Goals as goal
@@ -30,7 +30,7 @@ returns c =
           (λ told on. record {
             active = scene.active;
             joined = subst (λ (es : List Edge). JoinReached g es) same seen.0;
-            told_of = subst (λ (es : List Edge). IsKeptOrBroken silent (with_edges g es) questions told) same (on g scene.sound scene.picture seen.0 seen.1);
+            told_of = subst (λ (es : List Edge). IsPolicyOutcome silent (with_edges g es) questions told) same (on g scene.sound scene.picture seen.0 seen.1);
           })
           c.find_breach.ensures.told;
       refused = IfErr-weaker c.find_breach.result (λ why. why ≡ refusal.OutOfMemory) (IsRefusedOn g silent as_if) (λ why is. inr (scene.active, inl is)) c.find_breach.ensures.refused;

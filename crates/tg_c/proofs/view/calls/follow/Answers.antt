@@ -2,7 +2,7 @@ use Rattle.std.proofs.Common.{◌≡◌, ◌∙◌, inr, subst, sym, ap, is_some
 use Rattle.std.proofs.lemmas.Result.{IfErr-weaker, IfOk-weaker}
 use Rattle.tg_model.specs.declared.edge.Edge.{Edge}
 use Rattle.tg_c.specs.Forms.{edge_in, label_or_none}
-use Rattle.tg_c.specs.View.{IsFollowed, IsFollowedIn, IsNotFollowed, IsNotFollowedIn}
+use Rattle.tg_c.specs.View.{SightFollows, IsFollowedIn, IsNotFollowed, IsNotFollowedIn}
 use Rattle.tg_c.proofs.view.calls.follow.Goals as goal
 
 pub returns-clause-told : goal.returns-clause-told
@@ -13,11 +13,11 @@ returns-clause-told c =
     let edge : Edge = record { from = form.from; to = form.to; label = c.in_ok-label.label } in
     let same : old ≡ c.args.view.now.handle.opened = c.deref_mut.ensures.value ∙ c.in-Some.ensures.taken.1 in
     let read : edge ≡ edge_in form = ap (λ o. record { from = form.from; to = form.to; label = label_or_none o }) (sym c.in_ok-label.ensures.label) in
-    IfOk-weaker c.follow-followed.result (IsFollowed old edge new) (IsFollowedIn c.args.view.now form c.put.new.self)
+    IfOk-weaker c.follow-followed.result (SightFollows old edge new) (IsFollowedIn c.args.view.now form c.put.new.self)
     (λ followed is. record {
       met = (ap is_some c.in_ok-label.ensures.label, (c.in-Some.ensures.taken.0, tt));
-      view = subst (λ s. IsFollowed s (edge_in form) c.put.new.self.handle.opened followed) same
-          (subst (λ e. IsFollowed old e c.put.new.self.handle.opened followed) read (subst (λ t. IsFollowed old edge t followed) (sym c.put.ensures.opened) is));
+      view = subst (λ s. SightFollows s (edge_in form) c.put.new.self.handle.opened followed) same
+          (subst (λ e. SightFollows old e c.put.new.self.handle.opened followed) read (subst (λ t. SightFollows old edge t followed) (sym c.put.ensures.opened) is));
     })
     c.follow-followed.ensures.told
 
