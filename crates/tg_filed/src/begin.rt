@@ -50,7 +50,9 @@ fn give_name<D: Disk + Drop, P: Payload>(
     mut name: NewName,
     kept: Kept<D, P>,
 ) -> Result<BegunFile<D, P>, BeginFault>
+    requires left { LeavesStore D.Disk kept.store kept.file.disk }
     ensures kept { IfOk result (λ begun. begun.kept ≡ kept) }
+    ensures left { IfOk result (λ begun. LeavesStore D.Disk begun.kept.store begun.kept.file.disk) }
     ensures lasting { IfOk result (λ begun. IsTrue begun.name.is_lasting) }
 {
     if let Err(error) = name.rename(rt) {
