@@ -17,8 +17,9 @@ use tg_store::Limits;
 /// open. `Ok` has a store with exactly the opening and the entries that the file says, as
 /// [`Kept::open`](tg_kept::Kept::open) does.
 ///
-/// [`PathOpenFault::Path`] says that the file can't be opened at this path. Then it is as it was. [`PathOpenFault::Kept`] says
-/// why no store goes on from it. A refusal that isn't of the disk leaves a file with the same history.
+/// [`PathOpenFault::Path`] says that the file can't be opened at this path. Then it is as it was.
+/// [`PathOpenFault::Kept`] says why no store goes on from it. A refusal that isn't of the disk leaves a file with the
+/// same history.
 pub fn open_kept<S: Start, P: Payload, M: Maker<P>>(
     rt: &HostRuntime,
     path: &str,
