@@ -33,10 +33,12 @@ class Service:
         self.rules.append((name, right, document))
 
     def share(self, giver, receiver, document, rights):
-        policy = [(self.clients[name], right, guarded) for name, right, guarded in self.rules if name in self.clients]
-        breach = self.store.could_any(policy, as_if=[(self.clients[receiver], document, rights)])
+        policy = [rule for rule in self.rules if rule[0] in self.clients]
+        asked = [(self.clients[name], right, guarded) for name, right, guarded in policy]
+        breach = self.store.could_any(asked, as_if=[(self.clients[receiver], document, rights)])
         if breach:
-            raise Forbidden("{} could come to hold {!r} over {}".format(*policy[breach.at]))
+            name, right, guarded = policy[breach.at]
+            raise Forbidden(f"{name} could come to hold {right.letters} over {guarded}")
         self.store.hand(HOST, self.clients[giver], self.clients[receiver], document, rights)
 
     def tidy(self):
