@@ -1,5 +1,5 @@
 -- Texts of entries with count lines, and without them.
-use Rattle.std.proofs.Common.{◌≡◌, ◌∙◌, ℕ, ◌+◌, List, [], ◌∷◌, ◌++◌, ap, length, length-append, refl, sym, subst, append-nil, append_assoc}
+use Rattle.std.proofs.Common.{◌∙◌, ℕ, ◌+◌, List, [], ◌∷◌, ◌++◌, ap, length, length-append, refl, sym, subst, append-nil, append_assoc}
 use Rattle.std.specs.List.{flat_map}
 use Rattle.tg_journal.specs.declared.entry.Entry.{Entry}
 use Rattle.tg_snapshot.specs.Snapshot.{Saved}

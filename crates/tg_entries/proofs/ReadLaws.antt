@@ -26,7 +26,7 @@ use Rattle.tg_entries.specs.Pieces.{FetchesPiece}
 use Rattle.tg_entries.specs.Read.{AuditedText, CanSave, EndsText, ReadsOn, HasEnded, HasEntered, HasRead, HasReadAll, HasReadTo, HasReopened, IsListedEntry, IsNext}
 use Rattle.tg_snapshot.specs.Snapshot.{Saved, IsSnapshot, IsSnapshotOf, graph_shown}
 use Rattle.tg_saved.specs.Texts.{edge_line_text, snapshot_text}
-use Rattle.tg_entries.specs.Texts.{TextStart, Opened, Shown, Joined, IsAudited, IsAuditedAfter, IsCountedText, next_count, next_entry, no_entry, IsHistory, IsTextStart, IsSavedAfter, end_text, entry_text, graph_of_origin, head_text, limits_text, opening_text, origin_text, part_head_text, sum_text, version_text, worker_text}
+use Rattle.tg_entries.specs.Texts.{TextStart, Opened, Shown, Joined, IsAudited, IsAuditedAfter, next_count, next_entry, no_entry, IsHistory, IsTextStart, IsSavedAfter, end_text, entry_text, graph_of_origin, head_text, limits_text, opening_text, origin_text, part_head_text, sum_text, version_text, worker_text}
 
 -- an edge
 pub edge_read : (text line : List ℕ) (workers limit : ℕ) (values : List Value) (edges now : List Edge) (edge : Edge) → now ≡ edges ++ edge ∷ [] →

@@ -11,9 +11,9 @@ pub struct NewName {
     pub(crate) last: String,
     pub(crate) folder: fs::File,
     /// The file has its last name, unless the machine crashes.
-    pub is_renamed: bool,
+    pub(crate) is_renamed: bool,
     /// A crash leaves the file its last name.
-    pub is_lasting: bool,
+    pub(crate) is_lasting: bool,
 }
 
 impl NewName {
