@@ -88,7 +88,7 @@ entries_cut_off (l ∷ m ∷ lines) s front es h =
           ∙ sym (append_assoc (flat_map entry_text made) h.2 k.1) ∙ ap (λ (x : List ℕ). x ++ k.1) (sym h.5),
     )
 
-cut_by : (b : Bool) (lines : List Line) (s : Scene) (front : List ℕ) (es : List Entry) → TellsCut (told_by b) s lines front es → (answers : List Answer) × (rest : List ℕ) × AreAnswered s lines answers es × (answers_text b answers es ≡ front ++ rest)
+pub cut_by : (b : Bool) (lines : List Line) (s : Scene) (front : List ℕ) (es : List Entry) → TellsCut (told_by b) s lines front es → (answers : List Answer) × (rest : List ℕ) × AreAnswered s lines answers es × (answers_text b answers es ≡ front ++ rest)
 cut_by false lines s front es h = replies_cut_off lines s front es h
 cut_by true lines s front es h = entries_cut_off lines s front es h
 
@@ -117,11 +117,11 @@ counted_since begun es entries skipped is few = omega (arith, few, ap length is,
 
 -- ---- the lines from the first on
 
-abbrev IsLegalSince : ProtectionGraph → List Entry → List Entry → Type 0
+abbrev pub IsLegalSince : ProtectionGraph → List Entry → List Entry → Type 0
 IsLegalSince g begun entries = (es : List Entry) → entries ≡ begun ++ es → IsLegal g es
 
 -- they were told of
-gone_told : (b : Bool) (end : Option ScriptFault) (s : Script) (bytes : List ℕ) (t : Scene) (l : Line) (begun : List Entry) (before left : List ℕ) (entries : List Entry) (after : Option (List ℕ)) → IsLegalSince t.graph begun entries → StandsTold (told_by b) s bytes t l begun before end left entries after →
+pub gone_told : (b : Bool) (end : Option ScriptFault) (s : Script) (bytes : List ℕ) (t : Scene) (l : Line) (begun : List Entry) (before left : List ℕ) (entries : List Entry) (after : Option (List ℕ)) → IsLegalSince t.graph begun entries → StandsTold (told_by b) s bytes t l begun before end left entries after →
     (answers : List Answer) × (es : List Entry) × LinesGone s bytes t (Some l) end left answers es × (entries ≡ begun ++ es) × (after ≡ Some (before ++ answers_text b answers es))
 gone_told b end s bytes t l begun before left entries after legal (text, es, stands, had, (lines, reads, tells)) =
     let k = answered_by b (l ∷ lines) t text es tells in (

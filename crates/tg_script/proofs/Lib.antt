@@ -9,5 +9,7 @@ pub mod EnteringLaws
 pub mod WholeLaws
 pub mod CountLaws
 pub mod OutputLaws
+pub mod PartLaws
 pub mod MarkLaws
 pub mod GoingLaws
+pub mod RunPartLaws

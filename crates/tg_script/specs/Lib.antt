@@ -4,6 +4,7 @@ pub mod Running
 pub mod Entering
 pub mod Watching
 pub mod GoingOn
+pub mod Parts
 pub mod Lines
 pub mod Opening
 pub mod Whole

@@ -1,5 +1,5 @@
 -- The outcome of the next line of a script, and what that says of how its bytes are read.
-use Rattle.std.specs.Prelude.{◌≡◌, ◌⊎◌, ℕ, ◌+◌, true, List, [], ◌∷◌, ◌++◌, Option, Some, None, Result, Ok, Err, IfErr}
+use Rattle.std.specs.Prelude.{◌≡◌, ◌⊎◌, ℕ, ◌+◌, true, List, [], ◌∷◌, ◌++◌, length, Option, Some, None, Result, Ok, Err, IfErr}
 use Rattle.std.specs.List.{flat_map}
 use Rattle.tg_text.specs.declared.line.Line.{Line}
 use Rattle.tg_text.specs.declared.fetch.TheConstants.{MOST_BYTES}
@@ -41,6 +41,11 @@ abbrev pub NextLine : Script → List ℕ → Result (Option Line) ScriptFault �
 NextLine s bytes (Ok (Some l)) t rest = PassesLine s bytes l t rest
 NextLine s bytes (Ok None) t rest = ReadsFrom s bytes [] None rest
 NextLine s bytes (Err f) t rest = IsOfReading f × ReadsFrom s bytes [] (Some f) rest
+
+-- how many bytes may still come after the line, and that nothing changes at the end of the input
+abbrev pub PassesOn : Script → Option Line → Script → Type 0
+PassesOn s (Some l) t = t.lines.room + (length (line_text l) + 1) ≡ s.lines.room
+PassesOn s None t = (t.workers ≡ s.workers) × (t.lines.room ≡ s.lines.room) × (t.count ≡ s.count) × (t.opening ≡ s.opening)
 
 -- the line may be where it came, and now one more line was read
 pub record Follows (s : Script) (l : Line) (t : Script) : Type 0 where

@@ -6,7 +6,7 @@
 //! line. A [`Collector`] makes its collections. [`run_script_one`] is the run with [`OneThread`].
 //! [`run_script_entries`] is the same run, and writes the text of its history in place of replies.
 //! [`run_script_watched`] is either run, and shows each answer to a [`Watch`]. [`run_script_on`] is such a run on a
-//! store that exists.
+//! store that exists. [`ScriptRun`] runs a script part by part, and lends the store between the parts.
 //!
 //! `tg_text` has the spelling of lines and answers, and reads bytes. This crate exports what callers need of it. Its
 //! other definitions to believe are in `specs/`. `Script` says what the answers to the lines are, and in which cases a
@@ -24,6 +24,7 @@ mod going;
 mod helpers;
 pub mod laws;
 mod opening;
+mod parts;
 mod refusals;
 mod run;
 mod run_script;
@@ -39,6 +40,7 @@ pub use entering::run_script_entries;
 pub use going::{RunOn, run_script_on};
 pub use helpers::Helpers;
 pub use opening::open_store;
+pub use parts::{OpenedScript, ScriptLeft, ScriptRun, open_script};
 pub use refusals::{apply_refusal, collect_refusal, create_answer, helpers_refusal};
 pub use run_script::{
     InMemory, RunMeans, RunSetup, Settings, run_in_memory, run_script_one, run_script_watched,

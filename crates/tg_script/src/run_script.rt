@@ -3,6 +3,7 @@ ghost use Rattle.std.specs.Prelude.{◌≡◌, ◌≢◌, ℕ, List, [], Some, E
 ghost use Rattle.tg_script.specs.Inner.Beginning.{Begins, BeginsStreams, IsBegun, MayGoOn};
 ghost use Rattle.tg_script.specs.Inner.Counting.{MayCountInMemory, RunsInMemory};
 ghost use Rattle.tg_script.specs.Inner.Marks.{SeesCommands};
+ghost use Rattle.tg_script.specs.Inner.Parts.{PassesCommands, TakesStock};
 ghost use Rattle.tg_script.specs.Inner.Telling.{RunsCommands, UsesStreams};
 ghost use Rattle.tg_script.specs.Entering.{RanAs};
 ghost use Rattle.tg_script.specs.Running.{Finishes, FinishesSink, IsDue, Ran, RunsAs, RunsFrom};
@@ -299,6 +300,9 @@ pub(crate) fn run_commands<P: Payload, T: Telling, C: Collector, S: Source, K: S
     requires runnable { MayGoOn C.Ready begun.old.script begun.old.first }
     ensures written { RunsCommands S.left K.taken T.told source.old source.new sink.old sink.new begun.old begun.new result }
     ensures kept { begun.new.run.store.opening ≡ begun.old.run.store.opening }
+    ensures held { T.holds_all ≡ true → begun.new.run.store.handed ≡ begun.old.run.store.handed }
+    ensures stock { TakesStock begun.old.run begun.new.run }
+    ensures passed { OnOk result (PassesCommands S.left source.old source.new begun.old begun.new) }
     ensures streams { UsesStreams S.asked S.failures K.failures source.old source.new sink.old sink.new begun.old.script begun.old.first result }
     ensures seen { OnOk result (SeesCommands S.left K.taken W.refused T.told source.old source.new sink.old sink.new watch.old watch.new begun.old begun.new) }
 {

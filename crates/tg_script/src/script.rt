@@ -25,7 +25,7 @@ pub(crate) struct Script {
 impl Script {
     ghost use Rattle.std.specs.Prelude.{◌≡◌, ◌+◌, ◌<◌, ◌≤◌, ℕ, List, Some, IfOk, IfSome};
     ghost use Rattle.tg_text.specs.declared.fetch.TheConstants.{MOST_BYTES};
-    ghost use Rattle.tg_script.specs.Lines.{IsNewScript, IsOfReading, NextLine, OnlyReads, TakesLine, Follows};
+    ghost use Rattle.tg_script.specs.Lines.{IsNewScript, IsOfReading, NextLine, OnlyReads, PassesOn, TakesLine, Follows};
 
     /// No line was read.
     pub(crate) fn new(workers: u64) -> Script
@@ -52,13 +52,19 @@ impl Script {
         ensures follows { IfOk result (λ next. IfSome next (λ line. Follows self.old line self.new)) }
         ensures shorter { IfOk result (λ next. IfSome next (λ _. self.new.lines.room < self.old.lines.room)) }
         ensures reading { OnlyReads IsOfReading S.failures K.failures K.taken source.old source.new sink.old sink.new result }
-        ensures asked { S.asked source.new + self.new.lines.room ≤ S.asked source.old + self.old.lines.room + 1 }
+        ensures asked { S.asked source.new ≤ S.asked source.old + self.old.lines.room + 1 }
+        ensures passed { IfOk result (λ next. PassesOn self.old next self.new) }
         ensures asked_of_line { IfOk result (λ next. IfSome next (λ line. S.asked source.new + self.new.lines.room ≡ S.asked source.old + self.old.lines.room)) }
     {
         let number = self.count + 1;
+        let room = self.lines.room;
         match self.lines.next_line(source, sink, &mut self.buffer) {
             Fetched::Line => self.take_line(),
-            Fetched::End => Ok(None),
+            Fetched::End => {
+                // No byte came.
+                self.lines.room = room;
+                Ok(None)
+            }
             Fetched::Unfinished => Err(ScriptFault::BadLine { line: number }),
             Fetched::LineTooLong => Err(ScriptFault::LineTooLong { line: number }),
             Fetched::InputTooLong => Err(ScriptFault::InputTooLong),

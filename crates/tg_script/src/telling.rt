@@ -34,11 +34,15 @@ pub(crate) trait Holding {
 
 /// How the result of a line is reported. A run has the same promise with each way.
 pub(crate) trait Telling {
+    ghost use Rattle.std.specs.Prelude.{◌≡◌, Bool, true};
     ghost use Rattle.tg_script.specs.Opening.{IsAnswerable};
     ghost use Rattle.tg_script.specs.Inner.Telling.{LineText, RunsLine};
 
     /// The text that reports a line.
     ghost told: { LineText };
+
+    /// Whether all entries are held, also those of lines before.
+    ghost holds_all: { Bool };
 
     /// Answers the line, shows the answer to the watch, and writes the text that reports it.
     fn run_line<P: Payload, C: Collector, K: Sink, W: Watch>(
@@ -49,7 +53,8 @@ pub(crate) trait Telling {
         numbered: NumberedLine,
     ) -> Result<(), WriteFailed>
         requires answerable { IsAnswerable C.Ready numbered.line }
-        ensures { RunsLine told run.old numbered.line run.new (K.taken sink.old) (K.failures sink.old) result (K.taken sink.new) (K.failures sink.new) (W.refused watch.old) (W.refused watch.new) };
+        ensures told { RunsLine told run.old numbered.line run.new (K.taken sink.old) (K.failures sink.old) result (K.taken sink.new) (K.failures sink.new) (W.refused watch.old) (W.refused watch.new) }
+        ensures held { holds_all ≡ true → run.new.store.handed ≡ run.old.store.handed };
 }
 
 /// Each line is reported by its reply. Entries are given up, many at a time, and a long list at once.
@@ -68,6 +73,8 @@ impl Holding for ByReply {
 
 impl Telling for ByReply {
     ghost told = { reply_of_line };
+
+    ghost holds_all = { false };
 
     #[inline(always)]
     fn run_line<P: Payload, C: Collector, K: Sink, W: Watch>(
@@ -97,6 +104,8 @@ impl Holding for ByEntry {
 impl Telling for ByEntry {
     ghost told = { entry_of_line };
 
+    ghost holds_all = { false };
+
     fn run_line<P: Payload, C: Collector, K: Sink, W: Watch>(
         run: &mut Run<P>,
         collector: &C,
@@ -109,6 +118,34 @@ impl Telling for ByEntry {
         let answer = run.answer::<ByEntry, C>(collector, numbered.line);
         watch.see(&numbered, &answer);
         write_entries(sink, run.store.journal().entries())
+    }
+}
+
+/// Each line is reported by its reply, and all entries are held. Somebody else gives them up.
+pub(crate) struct ByHeldReply;
+
+impl Holding for ByHeldReply {
+    ghost holds = { true };
+
+    #[inline(always)]
+    fn heed<P: Payload>(_store: &mut Store<P>, _reply: &Reply) {}
+}
+
+impl Telling for ByHeldReply {
+    ghost told = { reply_of_line };
+
+    ghost holds_all = { true };
+
+    fn run_line<P: Payload, C: Collector, K: Sink, W: Watch>(
+        run: &mut Run<P>,
+        collector: &C,
+        sink: &mut K,
+        watch: &mut W,
+        numbered: NumberedLine,
+    ) -> Result<(), WriteFailed> {
+        let answer = run.answer::<ByHeldReply, C>(collector, numbered.line);
+        watch.see(&numbered, &answer);
+        write_reply(sink, &answer)
     }
 }
 

@@ -11,8 +11,8 @@ use Rattle.tg_script.proofs.RunLaws.{handles_before, makes_before}
 use Rattle.tg_script.proofs.telling.ByEntryTelling.run_line.Goals as goal
 
 -- What the journal holds after the line is what the line made.
-pub returns : goal.returns
-returns g c =
+pub returns-clause-told : goal.returns-clause-told
+returns-clause-told g c =
     let s = g.K.Sink in
     let old = c.args.run.now in
     let mid = c.give_up_entries.new.store in

@@ -2,8 +2,8 @@ use Rattle.tg_script.specs.Inner.Supply.{values_left}
 use Rattle.tg_script.proofs.RunLaws.{handles_before, makes_before}
 use Rattle.tg_script.proofs.telling.ByReplyTelling.run_line.Goals as goal
 
-pub returns : goal.returns
-returns g c =
+pub returns-clause-told : goal.returns-clause-told
+returns-clause-told g c =
     let old = c.args.run.now in
     let mid = c.give_up_many.new.store in
     let new = c.answer-answer.new.self in
