@@ -1,6 +1,6 @@
 -- What a file says of a history, and what a crash may leave of it.
-use Rattle.std.proofs.Common.{◌≡◌, ◌∙◌, ℕ, List, [], ◌++◌, drop, map, take, refl, sym, ap, subst, arith, append_assoc}
-use Rattle.std.specs.Prelude.{IsTrue}
+use Rattle.std.proofs.Common.{◌≡◌, ◌∙◌, ℕ, List, [], ◌++◌, drop, map, take, refl, sym, ap, subst, arith, append_assoc, Result, Ok, Err}
+use Rattle.std.specs.Prelude.{IsTrue, OnErr, OnOk}
 use Rattle.std.proofs.lemmas.List.{append-nil, length-map, map-append, take-append-drop, take-map}
 use Rattle.sqlite_disk.specs.declared.Disk as disk
 use Rattle.tg_model.specs.Opened.{Plan}
@@ -12,9 +12,10 @@ use Rattle.tg_store.specs.Store.{IsFaithful, StoreState}
 use Rattle.tg_keep.specs.Files.{AwaitsBatch, HasPut, LeavesPart, first_texts}
 use Rattle.tg_keep.specs.Fronts.{AddsFront}
 use Rattle.tg_keep.specs.Lines.{history_of}
+use Rattle.tg_keep.specs.declared.fault.FileFault.{FileFault}
 use Rattle.tg_keep.specs.declared.file.LineFile.{LineFile}
 use Rattle.tg_keep.proofs.Closing.{synced_open}
-use Rattle.tg_kept.specs.Keeping.{BeganByOpening, HasBegunHistory, KeepsUpTo, KeepsStore, LeavesFrom, LeavesStore}
+use Rattle.tg_kept.specs.Keeping.{BeganByOpening, HasBegunHistory, IsKept, KeepsUpTo, KeepsStore, LeavesFrom, LeavesStore}
 use Rattle.tg_kept.specs.Texts.{SaysFront, entry_line, kept_lines, opening_lines}
 
 -- more entries
@@ -96,3 +97,28 @@ keeps_same g old new file opening entries keeps clean =
     keeps clean
     ∙ ap (λ (o : Origin). kept_lines o.plan old.entries) (sym opening)
     ∙ ap (λ (es : List Entry). kept_lines new.opening.plan es) (sym entries)
+
+-- ---- a batch that a layer above makes
+
+pub entries_kept : {D T : Type 0} (g : disk.Ghosts D) (place : ℕ) (s : StoreState) (before after : LineFile D) (given : List Entry) (r : Result T FileFault) → given ≡ drop place s.entries → KeepsUpTo g place s before
+    → OnOk r (HasPut g (map entry_line given) before after) → LeavesPart g (map entry_line given) before.disk after.disk → OnOk r (IsKept g s after)
+entries_kept g place s before after given (Ok done) same front put left = record {
+  opened = front.opened;
+  writable = record { settled = put.settled; mixing = front.writable.mixing };
+  keeps = keeps_all g place s before after given same front put left;
+}
+entries_kept g place s before after given (Err why) same front put left = tt
+
+pub entries_left : {D T : Type 0} (g : disk.Ghosts D) (place : ℕ) (s : StoreState) (before after : LineFile D) (given : List Entry) (r : Result T FileFault) → given ≡ drop place s.entries → KeepsUpTo g place s before
+    → OnOk r (HasPut g (map entry_line given) before after) → LeavesPart g (map entry_line given) before.disk after.disk → OnOk r (LeavesStore g s after.disk)
+entries_left g place s before after given (Ok done) same front put left = leaves_store g s after put.settled (keeps_all g place s before after given same front put left)
+entries_left g place s before after given (Err why) same front put left = tt
+
+pub entries_lost : {D T : Type 0} (g : disk.Ghosts D) (place : ℕ) (s : StoreState) (before : LineFile D) (after : D) (given : List Entry) (r : Result T FileFault) → given ≡ drop place s.entries → IsFaithful s → KeepsUpTo g place s before
+    → LeavesPart g (map entry_line given) before.disk after → OnErr r (LeavesFrom g place s before.disk after)
+entries_lost g place s before after given (Ok done) same faithful front left = tt
+entries_lost g place s before after given (Err why) same faithful front left = leaves_from g place s before after given same faithful front left
+
+-- nothing was put
+pub leaves_same : {D : Type 0} (g : disk.Ghosts D) (s : StoreState) (file : LineFile D) → IsKept g s file → LeavesStore g s file.disk
+leaves_same g s file kept = leaves_store g s file kept.writable.settled kept.keeps

@@ -1,6 +1,7 @@
 pub mod DeedLaws
 pub mod FeedLaws
 pub mod KeepingLaws
+pub mod MarkingLaws
 pub mod PrintLaws
 pub mod ReadLaws
 pub mod ReopenLaws

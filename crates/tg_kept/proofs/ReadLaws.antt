@@ -27,10 +27,10 @@ use Rattle.tg_kept.proofs.TextLaws.{edge_may_be, entry_ends, entry_may_be, head_
 abbrev version_line : List ℕ
 version_line = codes "kovshenul entries 1"
 
-abbrev count_line : ℕ → List ℕ
+abbrev pub count_line : ℕ → List ℕ
 count_line count = codes "entries " ++ decimal count
 
-count_ends : (count : ℕ) → end_text count ≡ ended_line (count_line count)
+pub count_ends : (count : ℕ) → end_text count ≡ ended_line (count_line count)
 count_ends count = sym (append_assoc (codes "entries ") (decimal count) (10 ∷ []))
 
 count_feedless : (count : ℕ) → HasNoFeed (count_line count)

@@ -202,7 +202,7 @@ said_ends (said.Worker value) = worker_ends value.now
 said_ends (said.Edge edge) = edge_ends edge
 said_ends (said.Entry entry) = entry_ends entry.now
 
-unended_line : (text : List ℕ) → unended (ended_line text) ≡ text
+pub unended_line : (text : List ℕ) → unended (ended_line text) ≡ text
 unended_line text = take_at text (10 ∷ []) (length (ended_line text) - 1) (omega (arith, length-append text (10 ∷ [])))
 
 -- what was written of a line, without its line feed, is the line

@@ -1,7 +1,7 @@
 -- A store and the file that keeps it, and how a batch of commands changes both.
 use Rattle.std.specs.Prelude.{◌≡◌, ℕ, ◌≤◌, ◌++◌, Bool, true, false, List, [], length, take, drop, IsTrue, Option, Some, None, Result, Ok, Err}
 use Rattle.sqlite_disk.specs.declared.Disk as disk
-use Rattle.tg_keep.specs.Files.{AwaitsBatch, LeavesOpen, MayBeWritten, first_texts}
+use Rattle.tg_keep.specs.Files.{AwaitsBatch, LeavesClosed, LeavesOpen, MayBeWritten, first_texts}
 use Rattle.tg_keep.specs.Lines.{history_of}
 use Rattle.tg_keep.specs.declared.file.LineFile.{LineFile}
 use Rattle.tg_model.specs.declared.command.Command.{Command}
@@ -35,6 +35,17 @@ KeepsStore g s file = IsTrue (g.is_clean file.disk) → history_of (g.seen file.
 -- Each content that a crash may leave says exactly the history of the store.
 abbrev pub LeavesStore : {D : Type 0} → disk.Ghosts D → StoreState → D → Type 0
 LeavesStore g s disk = IsTrue (g.is_clean disk) → (c : List ℕ) → g.may_leave disk c → history_of c ≡ kept_lines s.opening.plan s.entries
+
+-- The file awaits a batch, and says exactly the history of the store, which began with its opening.
+pub record IsKept {D : Type 0} (g : disk.Ghosts D) (s : StoreState) (file : LineFile D) : Type 0 where
+  pub opened : BeganByOpening s.opening
+  pub writable : MayBeWritten g file
+  pub keeps : KeepsStore g s file
+
+-- Each content that a crash may leave says exactly the history of the store, and is that of a closed file.
+pub record LeavesClosedStore {D : Type 0} (g : disk.Ghosts D) (s : StoreState) (disk : D) : Type 0 where
+  pub says : LeavesStore g s disk
+  pub closed : IsTrue (g.is_clean disk) → LeavesClosed g.may_leave disk
 
 -- The file says the history of the store before a place, and may be written. The store holds its entries from there on.
 pub record KeepsUpTo {D : Type 0} (g : disk.Ghosts D) (place : ℕ) (s : StoreState) (file : LineFile D) : Type 0 where

@@ -3,7 +3,8 @@ ghost use Rattle.tg_keep.specs.Files.{MayBeWritten};
 ghost use Rattle.tg_kept.specs.Keeping.{BeganByOpening, KeepsStore};
 
 use crate::lost::Lost;
-use crate::put::{begin_history, entries_from, put_entries};
+use crate::parts::{close_entries, keep_entries};
+use crate::put::begin_history;
 use sqlite_disk::Disk;
 use std::alloc::Global;
 use tg_keep::LineFile;
@@ -22,6 +23,14 @@ pub struct Kept<D: Disk, P: Payload> {
     ghost keeps: { KeepsStore D.Disk store file },
 }
 
+/// A store, and the file that keeps its history, apart. Whoever has both may let the store make entries that the file
+/// doesn't say.
+#[derive(Drop)]
+pub struct KeptParts<D: Disk, P: Payload> {
+    pub store: Store<P>,
+    pub file: LineFile<D>,
+}
+
 /// A kept store that has served a batch of commands. All entries that the batch made are on the disk.
 #[derive(Drop)]
 pub struct Served<D: Disk, P: Payload> {
@@ -37,7 +46,7 @@ impl<D: Disk, P: Payload> Kept<D, P> {
     ghost use Rattle.tg_keep.specs.Opened.{is_of_disk};
     ghost use Rattle.tg_keep.specs.declared.fault.FileFault.TheVariants as FileFault;
     ghost use Rattle.tg_store.specs.declared.batch.TheConstants.{MOST_BATCH};
-    ghost use Rattle.tg_kept.specs.Keeping.{IsFirst, KeepsUpTo, LeavesFrom, LeavesStore, LosesCommands, ServesCommands};
+    ghost use Rattle.tg_kept.specs.Keeping.{IsFirst, IsKept, KeepsUpTo, LeavesClosedStore, LeavesFrom, LeavesStore, LosesCommands, ServesCommands};
 
     /// Begins the file of a store that was just opened, and that has no entry yet. The disk's file is empty. After `Ok`
     /// it says the lines of the opening, and they are on the disk. A crash before that may leave anything, so a program
@@ -96,6 +105,39 @@ impl<D: Disk, P: Payload> Kept<D, P> {
         Ok(Served { kept, ended })
     }
 
+    /// Takes the kept store apart. The file says exactly the entries of the store. A layer above that makes batches of
+    /// its own lets the store make entries, and calls [`keep_entries`] before it hands out a reply.
+    pub fn into_parts(self) -> KeptParts<D, P>
+        ensures store { result.store ≡ self.store }
+        ensures file { result.file ≡ self.file }
+        ensures kept { IsKept D.Disk result.store result.file }
+    {
+        let Kept { store, file } = self;
+        KeptParts { store, file }
+    }
+
+    /// Ends the run. The file gets the mark of a closed run, with the number of its entries. After `Ok` each content
+    /// that a crash may leave is that of a closed file, and says exactly the history of the store. The store is
+    /// dropped. To go on, open the file again.
+    ///
+    /// `Lost` says that the mark couldn't be put into the file, or that there was no memory for it. A crash leaves all
+    /// entries then, too.
+    pub fn close(self, alloc: Global) -> Result<D, Lost<D>>
+        ensures closed { IfOk result (λ disk. LeavesClosedStore D.Disk self.store disk) }
+        ensures lost { IfErr result (λ lost. LeavesStore D.Disk self.store lost.disk) }
+        ensures calm { IfOk result (λ disk. D.is_clean disk ≡ D.is_clean self.file.disk) }
+        ensures unmarked { IfErr result (λ lost. lost.why ≢ FileFault.BadMark) }
+    {
+        let Kept { store, mut file } = self;
+        match close_entries(alloc, &store, &mut file) {
+            Ok(()) => Ok(file.disk),
+            Err(why) => Err(Lost {
+                disk: file.disk,
+                why,
+            }),
+        }
+    }
+
     // The file, without its store.
     pub(crate) fn into_file(self) -> LineFile<D>
         ensures { result ≡ self.file }
@@ -117,7 +159,7 @@ impl<D: Disk, P: Payload> Kept<D, P> {
         ensures lost { IfErr result (λ lost. LeavesFrom D.Disk place store file.disk lost.disk) }
         ensures cause { IfErr result (λ lost. file.length ≤ 2 ^ 62 → IsTrue (is_of_disk lost.why) → MoreFaults (D.faults file.disk) (D.faults lost.disk)) }
     {
-        match put_entries(alloc, &mut file, entries_from(&store, place)) {
+        match keep_entries(alloc, &store, &mut file, place) {
             Ok(()) => Ok(Kept { store, file }),
             Err(why) => Err(Lost {
                 disk: file.disk,

@@ -26,6 +26,9 @@
 //! | [`Kept::make`], [`Kept::hand`] | make a vertex, or hand rights on, and put the lines into the file |
 //! | [`Kept::withdraw`], [`Kept::leave`] | withdraw rights, or have a worker leave, and put the lines into the file |
 //! | [`Kept::collect`], [`Kept::forget`] | collect the heap, and give up entries. Neither writes to the file |
+//! | [`Kept::close`] | ends the run by the mark of a closed file |
+//! | [`Kept::into_parts`] | takes the store and the file apart, for a layer that makes batches of its own |
+//! | [`keep_entries`], [`close_entries`] | put entries of such a store into its file, and close it |
 //! | [`Kept::store`] | lends the store, of which each entry is on the disk |
 //! | [`entry_lines`], [`opening_lines`] | the lines of entries, and of an opening, as a batch of `tg_keep` |
 #![tactic(auto)]
@@ -36,6 +39,7 @@ mod kept;
 pub mod laws;
 mod lines;
 mod lost;
+mod parts;
 mod put;
 mod read;
 mod reopen;
@@ -44,8 +48,9 @@ mod run;
 
 pub use deeds::{Answered, AskedVertex};
 pub use fault::KeptOpenFault;
-pub use kept::{Kept, Served};
+pub use kept::{Kept, KeptParts, Served};
 pub use lines::{entry_lines, opening_lines};
 pub use lost::Lost;
+pub use parts::{close_entries, keep_entries};
 pub use reopen::{NotOpened, Reopened};
 pub use run::{AskedBatch, Returned};

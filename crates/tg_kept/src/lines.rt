@@ -1,6 +1,7 @@
 //! The lines by which a file keeps a history.
 ghost use Rattle.std.specs.Prelude.{◌≡◌, ◌∷◌, ◌++◌, ◌<◌, [], true, map, IfOk, OnOk, IsOk};
 ghost use Rattle.tg_text.specs.Sinks.{Writes};
+ghost use Rattle.tg_entries.specs.Texts.{end_text};
 ghost use Rattle.tg_keep.specs.Batches.{batch_texts};
 ghost use Rattle.tg_keep.specs.Lines.{is_entry};
 ghost use Rattle.tg_kept.specs.Said.{said_line, said_text};
@@ -9,7 +10,7 @@ ghost use Rattle.tg_kept.specs.Texts.{edge_line, entry_line, opening_lines, unen
 use std::alloc::{AllocError, Global};
 use std::marker::Brand;
 use std::sync::ledger::{Blank, Ledger};
-use tg_entries::{write_entry, write_limits, write_worker};
+use tg_entries::{write_end, write_entry, write_limits, write_worker};
 use tg_journal::Entry;
 use tg_keep::{Batch, BatchFault, LineSum};
 use tg_model::{Edge, Opening, Value};
@@ -87,6 +88,27 @@ fn opening_lines_named<L: Ledger>(
     add_workers(&mut batch, &mut line, opening.values())?;
     add_edges(&mut batch, &mut line, opening.edges())?;
     Ok(batch)
+}
+
+/// Makes the line with the number of entries, with its line feed. Fails only if memory runs out.
+pub(crate) fn end_line(alloc: Global, count: u64) -> Result<Vec<u8>, AllocError>
+    ensures { IfOk result (λ line. line.items ≡ end_text count) }
+{
+    end_line_named::<Brand>(alloc, Blank::new(1), count)
+}
+
+// The ledger names the buffer of the line.
+fn end_line_named<L: Ledger>(alloc: Global, blank: Blank, count: u64) -> Result<Vec<u8>, AllocError>
+    requires name { blank.name ≡ L.name }
+    requires parts { blank.parts ≡ L.parts }
+    requires some { 0 < blank.parts }
+    ensures { IfOk result (λ line. line.items ≡ end_text count) }
+{
+    let mut line = Written::new(alloc, Count::<L>::new(blank));
+    match write_end(&mut line, count) {
+        Ok(()) => Ok(line.bytes),
+        Err(WriteFailed) => Err(AllocError),
+    }
 }
 
 fn add_workers<L: Ledger>(
