@@ -1,0 +1,4 @@
+pub mod ChunkLaws
+pub mod KeepingPartLaws
+pub mod SoFarLaws
+pub mod EndLaws
