@@ -1,6 +1,6 @@
 -- The outcome of a whole race, from what its parts did.
 use mathlib.Core.Bool.{false≢true}
-use Rattle.std.proofs.Common.{Bool, ◌≡◌, ◌⊎◌, ◌+◌, ◌<◌, ◌≤◌, arith, inl, inr, ℕ, List, [], ◌∷◌, ◌++◌, Option, Some, None, Result, Ok, Err, refl, sym, ap, ◌∙◌, subst, append-nil, drop, length, length-append, ◌-◌}
+use Rattle.std.proofs.Common.{Bool, true, false, ◌≡◌, ◌⊎◌, ◌+◌, ◌<◌, ◌≤◌, arith, inl, inr, ℕ, List, [], ◌∷◌, ◌++◌, Option, Some, None, Result, Ok, Err, refl, sym, ap, ◌∙◌, subst, append-nil, drop, length, length-append, ◌-◌}
 use Rattle.std.specs.Prelude.{IfErr, IsErrAnd, IsOk, IsSome, OnOk, map, nat_lt}
 use Rattle.std.specs.List.{All, filter, range_with_len}
 use Rattle.std.specs.declared.vec.Vec.{Vec}
@@ -24,6 +24,7 @@ use Rattle.tg_store.specs.Origin.{Origin, opened_by, start_at}
 use Rattle.tg_store.specs.Store.{StoreState, graph_of_store}
 use Rattle.tg_text.specs.declared.line.Line.{Line}
 use Rattle.tg_text.specs.declared.line.Line.TheVariants as line
+use Rattle.tg_text.specs.declared.fault.ScriptFault.TheVariants as script
 use Rattle.tg_text.specs.Reading.{ReadsScript}
 use Rattle.tg_text.specs.Sinks.{KeepsBytes}
 use Rattle.tg_script.specs.Opening.{IsCommand, edge_lines}
@@ -80,6 +81,12 @@ pub all_brought : {P : Type 0} (shared : SharedStart) (helpers : ℕ) (names : L
 all_brought shared helpers names bs works sessions all fresh is lines h =
     let P : List (ℕ × List Boxed) → Type 0 = λ g. AllBring shared helpers g all in
     subst P (each_assigned names bs works sessions fresh is lines) h
+
+-- the names of fresh sessions
+pub crew_of : (names : List ℕ) (sessions lent : List SessionState) (listed crew : List ℕ) → AreFresh names sessions → lent ≡ sessions → listed ≡ map (λ s. s.worker) lent → crew ≡ listed → crew ≡ names
+crew_of names sessions lent listed crew fresh same is lent_as =
+    let worker : SessionState → ℕ = λ s. s.worker in
+    lent_as ∙ is ∙ ap (map worker) same ∙ fresh.0
 
 -- as many as each thread has lines
 pub whole_of : (shared : SharedStart) (helpers : ℕ) (names crew : List ℕ) (stock : List Value) (lines : List Line) (all lent : List (Finished SessionState)) → crew ≡ names → lent ≡ all → AllBring shared helpers (all_assigned names (boxed stock lines)) all →
@@ -186,6 +193,11 @@ pub lacking_fault : {T : Type 0} (g : RaceFault) (r : Result T RaceFault) → g 
 lacking_fault g (Ok done) memory is = absurd is
 lacking_fault g (Err why) memory is = subst IsOfTelling (sym (is ∙ memory)) tt
 
+-- the only fault of an audit is the lack of memory
+pub only_memory : {T : Type 0} (g : RaceFault) (r : Result T RaceFault) → g ≡ fault.OutOfMemory → IsErrAnd r (λ why. why ≡ g) → IfErr r (λ f. f ≡ fault.OutOfMemory)
+only_memory g (Ok done) memory is = absurd is
+only_memory g (Err why) memory is = is ∙ memory
+
 -- and where the replies are
 pub telling_due : {T : Type 0} (start : Start) (r : Result T RaceFault) → IfErr r IsOfTelling → IfErr r (IsRaceDue start)
 telling_due start (Ok done) h = tt
@@ -272,17 +284,17 @@ before_due_on (fault.Script f) h = absurd h
 before_due_on fault.AuditFailed h = absurd h
 before_due_on f h = tt
 
-pub before_silent : {T : Type 0} (f : RaceFault) → IsBeforeWriting f → (race_read_failures {T = T} (Err f) ≡ 0) × (race_write_failures {T = T} (Err f) ≡ 0)
-before_silent (fault.Script f) h = absurd h
-before_silent fault.WriteFailed h = absurd h
-before_silent f h = (refl, refl)
+pub before_silent : (T : Type 0) (f : RaceFault) → IsBeforeWriting f → (race_read_failures {T = T} (Err f) ≡ 0) × (race_write_failures {T = T} (Err f) ≡ 0)
+before_silent T (fault.Script f) h = absurd h
+before_silent T fault.WriteFailed h = absurd h
+before_silent T f h = (refl, refl)
 
 -- it writes nothing
-pub before_writes : {T : Type 0} (IsText : List ℕ → Type 0) (f : RaceFault) (before : List ℕ) (after : Option (List ℕ)) → IsBeforeWriting f → after ≡ Some before → WritesRace {T = T} IsText before (Err f) after
-before_writes IsText (fault.Script f) before after h kept = absurd h
-before_writes IsText fault.AuditFailed before after h kept = absurd h
-before_writes IsText fault.WriteFailed before after h kept = absurd h
-before_writes IsText f before after h kept = kept
+pub before_writes : (T : Type 0) (IsText : List ℕ → Type 0) (f : RaceFault) (before : List ℕ) (after : Option (List ℕ)) → IsBeforeWriting f → after ≡ Some before → WritesRace {T = T} IsText before (Err f) after
+before_writes T IsText (fault.Script f) before after h kept = absurd h
+before_writes T IsText fault.AuditFailed before after h kept = absurd h
+before_writes T IsText fault.WriteFailed before after h kept = absurd h
+before_writes T IsText f before after h kept = kept
 
 -- the text that is told is one that may be written
 pub told_text : {T : Type 0} (r : Result T RaceFault) (IsText : List ℕ → Type 0) (s : StoreState) (text before : List ℕ) (after : Option (List ℕ)) → IsText text → TellsRace s text before r after → WritesRace IsText before r after
@@ -303,125 +315,20 @@ wrote_on (Err fault.WriteFailed) race_text from bytes before left lines commands
     (lines, h.0, h.1, reads, subst (λ (ls : List Line). IsRaceOutputOn race_text from ls (h.0 ++ h.1)) is h.2, h.3)
 wrote_on r race_text from bytes before left lines commands after reads is h = (lines, reads, h)
 
--- why the script isn't read
-pub unread_on : {P A T : Type 0} (f : RaceFault) (race_text : RaceTextOn) (from : RunOn P) (bytes before left : List ℕ) (after : Option (List ℕ)) → ReadsLines {A = A} bytes (Err f) left → after ≡ Some before → HasRaced {T = T} (race_on race_text from) bytes before (Err f) left after
-unread_on (fault.Script f) race_text from bytes before left after h kept = (h, kept)
-unread_on f race_text from bytes before left after h kept = absurd h
+-- a fault is as many failures, whatever it is a fault of
+pub same_reads : (A B : Type 0) (f : RaceFault) → race_read_failures {T = A} (Err f) ≡ race_read_failures {T = B} (Err f)
+same_reads A B (fault.Script script.ReadFailed) = refl
+same_reads A B f = refl
 
--- the auditor may go on to what a race added
-pub audit_on : (start : SharedStart) (old new : StoreState) (grown : List Entry) (auditor : AuditState) → start ≡ start_of_store old → MayAudit old auditor → new.opening ≡ start.opening → new.entries ≡ start.entries ++ grown → (new.handed ≡ start.handed) × (start.handed ≤ length start.entries) →
-    IsLegal (graph_of_store old) grown → MayAudit new auditor
-audit_on start old new grown auditor is may opening entries handed legal =
-    let front : List Entry = drop old.handed old.entries in
-    let low : old.handed ≤ length old.entries = subst (λ (s : SharedStart). s.handed ≤ length s.entries) is handed.1 in
-    let all : new.entries ≡ old.entries ++ grown = entries ∙ ap (λ (s : SharedStart). s.entries ++ grown) is in
-    let place : new.handed ≡ old.handed = handed.0 ∙ ap (λ (s : SharedStart). s.handed) is in
-    let held : drop new.handed new.entries ≡ front ++ grown = (λ i. drop (place i) (all i)) ∙ drop-append-le old.handed old.entries grown low in
-    let from = may.from in
-    record {
-      from = from;
-      comes = may.comes;
-      place = may.place ∙ sym place;
-      legal = subst (IsLegal from) (sym held) (IsLegal-append from front grown may.legal (subst (λ g. IsLegal g grown) may.graph legal));
-      graph = (λ i. graph_after (start_at ((opening ∙ ap (λ (s : SharedStart). s.opening) is) i)) (all i)) ∙ graph_after-append (start_at old.opening) old.entries grown
-          ∙ ap (λ g. graph_after g grown) may.graph ∙ sym (graph_after-append from front grown) ∙ ap (graph_after from) (sym held);
-    }
-
--- what a race added is a legal history from its start
-pub legal_since : (start : SharedStart) (old new : StoreState) (grown : List Entry) → start ≡ start_of_store old → new.opening ≡ start.opening → new.entries ≡ start.entries ++ grown → IsLegal (start_at new.opening) new.entries → IsLegal (graph_of_store old) grown
-legal_since start old new grown is opening entries legal =
-    let all : new.entries ≡ old.entries ++ grown = entries ∙ ap (λ (s : SharedStart). s.entries ++ grown) is in
-    (IsLegal-cut (start_at old.opening) old.entries grown (subst (IsLegal (start_at old.opening)) all (subst (λ o. IsLegal (start_at o) new.entries) (opening ∙ ap (λ (s : SharedStart). s.opening) is) legal))).1
-
--- what it came to is an output
-pub output_on : {P : Type 0} (race_text : RaceTextOn) (from : RunOn P) (lines : List Line) (raced : Raced P) (first : ℕ) → IsRacedFrom from.helpers (start_of_store from.store) from.stock.items lines raced → first ≡ length from.store.entries → from.skipped ≤ length from.store.entries →
-    IsRaceOutputOn race_text from lines (race_text (length raced.store.entries - from.skipped) (drop first raced.store.entries) (text_of_told raced.store.entries raced.told.items))
-output_on race_text from lines raced first came at place =
-    let start = start_of_store from.store in
-    let grown : List Entry = since start raced.store in
-    let long : length raced.store.entries ≡ length from.store.entries + length grown = ap (λ (es : List Entry). length es) came.grown ∙ length-append from.store.entries grown in
-    let total : length raced.store.entries - from.skipped ≡ count_before from + length grown = omega (arith, long, place) in
-    record {
-      entries = grown;
-      made = came.told.made;
-      replies = text_of_told raced.store.entries raced.told.items;
-      run = record {
-        legal = legal_since start from.store raced.store grown refl came.opening came.grown came.faithful.legal;
-        told = came.told.told;
-        each = came.told.each;
-      };
-      text_is = λ i. race_text (total i) (drop (at i) raced.store.entries) (text_of_told raced.store.entries raced.told.items);
-    }
-
--- the auditor lacks memory, where it stops
-pub fed_lacks : (s : StoreState) (old new : AuditState) (f : PartFault) (r : Result (Unit {0}) PartFault) → r ≡ Err f → s.handed ≤ length s.entries → MayAudit s old → FeedsPart old new s.handed s.entries r → race_fault_of_part f ≡ fault.OutOfMemory
-fed_lacks s old new f r is within may feeds = lacks f is (if_err r f is feeds.refused) where
-  if_err : (r : Result (Unit {0}) PartFault) (f : PartFault) → r ≡ Err f → IfErr r (IsRefusedPart old new s.handed s.entries) → IsRefusedPart old new s.handed s.entries f
-  if_err r f is h = subst (λ (x : Result (Unit {0}) PartFault). IfErr x (IsRefusedPart old new s.handed s.entries)) is h
-
-  lacks : (f : PartFault) → r ≡ Err f → IsRefusedPart old new s.handed s.entries f → race_fault_of_part f ≡ fault.OutOfMemory
-  lacks (part.BadPlace due start end) is h =
-      let same : r ≡ Err (part.BadPlace old.at s.handed (length s.entries)) = is ∙ (λ i. Err (part.BadPlace (h.0 i) (h.1 i) (h.2 i))) in
-      absurd (outside ((feeds.bad_place may.comes.none_bad).0 same))
-    where
-      outside : (old.at < s.handed) ⊎ (length s.entries < old.at) → ⊥
-      outside (inl low) = omega (arith, low, may.place)
-      outside (inr high) = omega (arith, high, within, may.place)
-  lacks (part.BadEntry at) is h =
-      let legal : IsLegal may.from (drop old.at s.entries) = subst (λ (n : ℕ). IsLegal may.from (drop n s.entries)) (sym may.place) may.legal in
-      absurd (IsFirstBad-not_legal may.from (drop old.at s.entries) (at - old.at) (h.3 may.from may.comes) legal)
-  lacks (part.OutOfMemory at) is h = refl
-
--- a fault of the telling is due
-pub telling_due_on : {T : Type 0} (r : Result T RaceFault) → IfErr r IsOfTelling → IfErr r IsRaceDueOn
-telling_due_on (Ok done) h = tt
-telling_due_on (Err fault.OutOfMemory) h = tt
-telling_due_on (Err fault.WriteFailed) h = tt
-telling_due_on r h = absurd h
-
--- and so is one before
-pub before_due_on : (f : RaceFault) → IsBeforeWriting f → IsRaceDueOn f
-before_due_on (fault.Script f) h = absurd h
-before_due_on fault.AuditFailed h = absurd h
-before_due_on f h = tt
-
-pub before_silent : {T : Type 0} (f : RaceFault) → IsBeforeWriting f → (race_read_failures {T = T} (Err f) ≡ 0) × (race_write_failures {T = T} (Err f) ≡ 0)
-before_silent (fault.Script f) h = absurd h
-before_silent fault.WriteFailed h = absurd h
-before_silent f h = (refl, refl)
-
--- it writes nothing
-pub before_writes : {T : Type 0} (IsText : List ℕ → Type 0) (f : RaceFault) (before : List ℕ) (after : Option (List ℕ)) → IsBeforeWriting f → after ≡ Some before → WritesRace {T = T} IsText before (Err f) after
-before_writes IsText (fault.Script f) before after h kept = absurd h
-before_writes IsText fault.AuditFailed before after h kept = absurd h
-before_writes IsText fault.WriteFailed before after h kept = absurd h
-before_writes IsText f before after h kept = kept
-
--- the text that is told is one that may be written
-pub told_text : {T : Type 0} (r : Result T RaceFault) (IsText : List ℕ → Type 0) (s : StoreState) (text before : List ℕ) (after : Option (List ℕ)) → IsText text → TellsRace s text before r after → WritesRace IsText before r after
-told_text (Ok done) IsText s text before after is h = (text, is, h.1)
-told_text (Err (fault.Script f)) IsText s text before after is h = absurd h
-told_text (Err fault.AuditFailed) IsText s text before after is h = absurd h
-told_text (Err fault.WriteFailed) IsText s text before after is h = (h.1, h.2, subst IsText h.3 is, h.4)
-told_text r IsText s text before after is h = h
-
--- what is written for the lines that were read
-pub wrote_on : {P T : Type 0} (r : Result T RaceFault) (race_text : RaceTextOn) (from : RunOn P) (bytes before left : List ℕ) (lines commands : List Line) (after : Option (List ℕ)) → ReadsScript 0 bytes lines None left → commands ≡ commands_of lines →
-    WritesRace (IsRaceOutputOn race_text from commands) before r after → HasRaced (race_on race_text from) bytes before r left after
-wrote_on (Ok done) race_text from bytes before left lines commands after reads is h =
-    (lines, h.0, reads, subst (λ (ls : List Line). IsRaceOutputOn race_text from ls h.0) is h.1, h.2)
-wrote_on (Err (fault.Script f)) race_text from bytes before left lines commands after reads is h = absurd h
-wrote_on (Err fault.AuditFailed) race_text from bytes before left lines commands after reads is h = absurd h
-wrote_on (Err fault.WriteFailed) race_text from bytes before left lines commands after reads is h =
-    (lines, h.0, h.1, reads, subst (λ (ls : List Line). IsRaceOutputOn race_text from ls (h.0 ++ h.1)) is h.2, h.3)
-wrote_on r race_text from bytes before left lines commands after reads is h = (lines, reads, h)
+pub same_writes : (A B : Type 0) (f : RaceFault) → race_write_failures {T = A} (Err f) ≡ race_write_failures {T = B} (Err f)
+same_writes A B fault.WriteFailed = refl
+same_writes A B (fault.Script script.WriteFailed) = refl
+same_writes A B f = refl
 
 -- why the script isn't read
-pub unread_on : {P A T : Type 0} (r : Result (Vec Line A) RaceFault) (f : RaceFault) (race_text : RaceTextOn) (from : RunOn P) (bytes before left : List ℕ) (after : Option (List ℕ)) → r ≡ Err f → ReadsLines bytes r left → after ≡ Some before → HasRaced {T = T} (race_on race_text from) bytes before (Err f) left after
-unread_on {A = A} {T = T} r f race_text from bytes before left after is reads kept = by_fault f (subst (λ (x : Result (Vec Line A) RaceFault). ReadsLines bytes x left) is reads) where
-  by_fault : (f : RaceFault) → ReadsLines {A = A} bytes (Err f) left → HasRaced {T = T} (race_on race_text from) bytes before (Err f) left after
-  by_fault (fault.Script f) h = (h, kept)
-  by_fault f h = absurd h
+pub unread_on : {P : Type 0} (A T : Type 0) (f : RaceFault) (race_text : RaceTextOn) (from : RunOn P) (bytes before left : List ℕ) (after : Option (List ℕ)) → ReadsLines {A = A} bytes (Err f) left → after ≡ Some before → HasRaced {T = T} (race_on race_text from) bytes before (Err f) left after
+unread_on A T (fault.Script f) race_text from bytes before left after h kept = (h, kept)
+unread_on A T f race_text from bytes before left after h kept = absurd h
 
 -- ---- the end
 

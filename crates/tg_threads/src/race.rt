@@ -284,7 +284,8 @@ fn run_lines<
     let crew = names.as_slice();
     let works = share_out(alloc, crew, sessions, stock, lines)?;
     let finished = run_threads(context, works)?;
-    let told = in_script_order(alloc, crew, lines, finished.as_slice())?;
+    let brought = finished.as_slice();
+    let told = in_script_order(alloc, crew, lines, brought)?;
     let sessions = sessions_of(alloc, finished)?;
     Ok(RanLines { sessions, told })
 }

@@ -1,5 +1,5 @@
 //! The tasks that the lines of a script give to the sessions, and their results.
-ghost use Rattle.std.specs.Prelude.{◌≡◌};
+ghost use Rattle.std.specs.Prelude.{◌≡◌, ◌<◌, IfSome, length};
 ghost use Rattle.tg_threads.specs.Shares.{runner_of, thread_of};
 
 use tg_payload::{Draft, Payload};
@@ -28,7 +28,8 @@ pub enum Told {
 /// The thread whose session runs the line, from 0 on. It is the thread of the line's own worker, or the first thread
 /// for a collection. The threads are in the order of their workers' names.
 pub fn runner(names: &[u64], line: &Line) -> Option<u64>
-    ensures { result ≡ runner_of names.now line.now }
+    ensures thread { result ≡ runner_of names.now line.now }
+    ensures within { IfSome result (λ k. 0 < length names.now → k < length names.now) }
 {
     match line {
         Line::Create { worker, .. } | Line::Spawn { worker, .. } | Line::Plain { worker, .. } => {
@@ -41,7 +42,8 @@ pub fn runner(names: &[u64], line: &Line) -> Option<u64>
 
 // The place of the name among the names.
 fn thread_of(names: &[u64], worker: u64) -> Option<u64>
-    ensures { result ≡ thread_of names.now worker }
+    ensures thread { result ≡ thread_of names.now worker }
+    ensures within { IfSome result (λ k. 0 < length names.now → k < length names.now) }
 {
     for (at, name) in names.iter().enumerate() {
         if *name == worker {

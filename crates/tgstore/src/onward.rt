@@ -1,5 +1,5 @@
 //! What a run or a race goes on from, after the history of a file.
-ghost use Rattle.std.specs.Prelude.{◌≡◌, ◌≤◌, ◌↔◌, [], IfErr, IfOk, IsTrue, length};
+ghost use Rattle.std.specs.Prelude.{◌≡◌, ◌≤◌, IfErr, IfOk, length};
 ghost use Rattle.tg_journal.specs.Auditing.{StandsAt};
 ghost use Rattle.tg_revive.specs.Reviving.{entries_made_before, graph_of_start};
 ghost use Rattle.tg_store.specs.Store.{graph_of_store};
@@ -40,21 +40,15 @@ pub(crate) fn auditor_of(alloc: Global, begin: &HistoryStart) -> Result<Auditor,
 pub(crate) fn race_after<P: Payload>(from: RunOn<P>, auditor: Auditor) -> Result<RaceOn<P>, Stop>
     ensures on { IfOk result (λ on. (on.from ≡ from) × (on.auditor ≡ auditor)) }
     ensures acts { IfOk result (λ on. 1 ≤ length (graph_of_store from.store).subjects) }
-    ensures nobody { IfErr result (λ why. (why ≡ Stop.Resume HistoryFault.NobodyActs) × ((graph_of_store from.store).subjects ≡ [])) }
+    ensures nobody { IfErr result (λ why. (why ≡ Stop.Resume HistoryFault.NobodyActs) × (length (graph_of_store from.store).subjects ≡ 0)) }
 {
-    if somebody_acts(&from) {
+    let acting = from.store.subjects().len();
+    if acting > 0 {
         return Ok(RaceOn { from, auditor });
     }
     drop(from);
     drop(auditor);
     Err(Stop::Resume(HistoryFault::NobodyActs))
-}
-
-// Whether a subject is active.
-fn somebody_acts<P: Payload>(from: &RunOn<P>) -> bool
-    ensures { IsTrue result ↔ (1 ≤ length (graph_of_store from.now.store).subjects) }
-{
-    !from.store.subjects().is_empty()
 }
 
 /// Runs the source's script as a race from there on, and writes replies, or entries if this is asked for.

@@ -21,7 +21,7 @@ loop-task-init g c =
 pub index_mut-requires : goal.index_mut-requires
 index_mut-requires g c =
     let names = c.args.names.now in
-    let by : runner_of names c.in-Some.task.line ≡ Some c.in-Some-runner.thread = sym c.runner.ensures ∙ c.in-Some-runner.is in
+    let by : runner_of names c.in-Some.task.line ≡ Some c.in-Some-runner.thread = sym c.runner.ensures.thread ∙ c.in-Some-runner.is in
     let low = runner_below names c.in-Some-runner.thread c.in-Some.task.line c.requires.some by in
     omega (arith, low, c.loop-task.invariant.dealt.long, length-map c.loop-task.works.items lines_in, c.loop-task.works.ok.0)
 
@@ -31,7 +31,7 @@ loop-task-preserved-in-Continue-1 g c =
     let y = c.in-Some-runner.thread in
     let task = c.in-Some.task in
     let works = c.loop-task.works.items in
-    let by : runner_of names task.line ≡ Some y = sym c.runner.ensures ∙ c.in-Some-runner.is in
+    let by : runner_of names task.line ≡ Some y = sym c.runner.ensures.thread ∙ c.in-Some-runner.is in
     let low = runner_below names y task.line c.requires.some by in
     let w = c.index_mut.result.now in
     let after = c.give.new.work in
@@ -47,7 +47,7 @@ pub loop-task-preserved : goal.loop-task-preserved
 loop-task-preserved g c = record {
   left = one_more c.loop-task.yielded c.next.new.self.rest.items c.loop-task.task-iterator.rest.items c.args.tasks.items c.in-Some.task c.in-Some.ensures.steps.0 c.loop-task.invariant.left;
   dealt = dealt_nobodys boxed_of c.args.names.now c.loop-task.yielded c.in-Some.task (map lines_in c.loop-task.works.items)
-      (sym c.runner.ensures ∙ c.in-None-runner.is) c.loop-task.invariant.dealt;
+      (sym c.runner.ensures.thread ∙ c.in-None-runner.is) c.loop-task.invariant.dealt;
   sessions = c.loop-task.invariant.sessions;
 }
 
