@@ -120,7 +120,7 @@ among_workers : (workers x : ℕ) (c : Bool) → nat_lt x workers ≡ c → is_a
 among_workers workers x true is =
     let low = ltb-true x workers is in
     let names = range_with_len 0 workers in
-    subst (λ y. is_among names y ≡ true) (get_or-range_with_len 0 workers x 0 low) (among_each names x (omega (arith, low, length-range_with_len 0 workers)))
+    subst (λ y. is_among names y ≡ true) (get_or-range_with_len 0 workers x 0 low ∙ (let same : 0 + x ≡ x = omega arith in same)) (among_each names x (omega (arith, low, length-range_with_len 0 workers)))
 among_workers workers x false is = false_from_ne_true (is_among (range_with_len 0 workers) x) (λ yes.
     let at = threaded (range_with_len 0 workers) x yes in
     let there = placed (range_with_len 0 workers) x at.0 at.1 in
@@ -316,19 +316,25 @@ wrote_on (Err fault.WriteFailed) race_text from bytes before left lines commands
 wrote_on r race_text from bytes before left lines commands after reads is h = (lines, reads, h)
 
 -- a fault is as many failures, whatever it is a fault of
-pub same_reads : (A B : Type 0) (f : RaceFault) → race_read_failures {T = A} (Err f) ≡ race_read_failures {T = B} (Err f)
-same_reads A B (fault.Script script.ReadFailed) = refl
-same_reads A B f = refl
+pub same_reads : {A : Type 0} (r : Result A RaceFault) (f : RaceFault) → r ≡ Err f → race_read_failures r ≡ race_read_failures {T = Unit {0}} (Err f)
+same_reads {A} r f is = ap race_read_failures is ∙ at f where
+  at : (f : RaceFault) → race_read_failures {T = A} (Err f) ≡ race_read_failures {T = Unit {0}} (Err f)
+  at (fault.Script script.ReadFailed) = refl
+  at f = refl
 
-pub same_writes : (A B : Type 0) (f : RaceFault) → race_write_failures {T = A} (Err f) ≡ race_write_failures {T = B} (Err f)
-same_writes A B fault.WriteFailed = refl
-same_writes A B (fault.Script script.WriteFailed) = refl
-same_writes A B f = refl
+pub same_writes : {A : Type 0} (r : Result A RaceFault) (f : RaceFault) → r ≡ Err f → race_write_failures r ≡ race_write_failures {T = Unit {0}} (Err f)
+same_writes {A} r f is = ap race_write_failures is ∙ at f where
+  at : (f : RaceFault) → race_write_failures {T = A} (Err f) ≡ race_write_failures {T = Unit {0}} (Err f)
+  at fault.WriteFailed = refl
+  at (fault.Script script.WriteFailed) = refl
+  at f = refl
 
 -- why the script isn't read
-pub unread_on : {P : Type 0} (A T : Type 0) (f : RaceFault) (race_text : RaceTextOn) (from : RunOn P) (bytes before left : List ℕ) (after : Option (List ℕ)) → ReadsLines {A = A} bytes (Err f) left → after ≡ Some before → HasRaced {T = T} (race_on race_text from) bytes before (Err f) left after
-unread_on A T (fault.Script f) race_text from bytes before left after h kept = (h, kept)
-unread_on A T f race_text from bytes before left after h kept = absurd h
+pub unread_on : {P A : Type 0} (r : Result (Vec Line A) RaceFault) (f : RaceFault) (race_text : RaceTextOn) (from : RunOn P) (bytes before left : List ℕ) (after : Option (List ℕ)) → r ≡ Err f → ReadsLines bytes r left → after ≡ Some before → HasRaced {T = Unit {0}} (race_on race_text from) bytes before (Err f) left after
+unread_on {P} {A} r f race_text from bytes before left after is reads kept = by_fault f (subst (λ (x : Result (Vec Line A) RaceFault). ReadsLines bytes x left) is reads) where
+  by_fault : (f : RaceFault) → ReadsLines {A = A} bytes (Err f) left → HasRaced {T = Unit {0}} (race_on race_text from) bytes before (Err f) left after
+  by_fault (fault.Script f) h = (h, kept)
+  by_fault f h = absurd h
 
 -- ---- the end
 

@@ -76,14 +76,14 @@ later_none (Some i) h = absurd cc
 -- the thread of x is the place of its name
 pub placed : (names : List ℕ) (x k : ℕ) → thread_of names x ≡ Some k → (k < length names) × (slice_index names k ≡ x)
 placed [] x k h = absurd cc
-placed (name ∷ names) x k h = by_name (name == x) refl h where
-  by_name : (c : Bool) → (name == x) ≡ c → cond c (Some 0) (later (thread_of names x)) ≡ Some k → (k < suc (length names)) × (slice_index (name ∷ names) k ≡ x)
-  by_name true is at =
+placed (name ∷ names) x k h = by_name (placed names x) (name == x) refl h where
+  by_name : ((i : ℕ) → thread_of names x ≡ Some i → (i < length names) × (slice_index names i ≡ x)) → (c : Bool) → (name == x) ≡ c → cond c (Some 0) (later (thread_of names x)) ≡ Some k → (k < suc (length names)) × (slice_index (name ∷ names) k ≡ x)
+  by_name rest true is at =
       let first : 0 ≡ k = same_Some 0 k at in
       subst (λ (n : ℕ). (n < suc (length names)) × (slice_index (name ∷ names) n ≡ x)) first (omega arith, eqb-true name x is)
-  by_name false is at =
+  by_name rest false is at =
       let behind = later_some (thread_of names x) k at in
-      let there = placed names x behind.0 behind.1 in
+      let there = rest behind.0 behind.1 in
       subst (λ (n : ℕ). (n < suc (length names)) × (slice_index (name ∷ names) n ≡ x)) (sym behind.2) (omega (arith, there.0), there.1)
 
 -- who has a thread is among the names, and the others aren't

@@ -13,15 +13,15 @@ returns-in-Ok-clause-output g c = λ bytes before known taken.
 pub returns-in-Err-clause-output : goal.returns-in-Err-clause-output
 returns-in-Err-clause-output g c = λ bytes before known taken.
     let k = g.K.Sink in
-    let read = c.in-Err.ensures.bytes bytes known in
-    let kept = keeps_known (k.taken c.args.sink.now) (k.taken c.read_lines.new.sink) before taken c.in-Err.ensures.silent.keeps in
-    (read.0, read.1, unread_on _ _ c.in-Err.fault g.T.RaceTelling.race_text_on c.args.on.from bytes before read.0 (k.taken c.read_lines.new.sink) read.2 kept)
+    let read = c.read_lines.ensures.bytes bytes known in
+    let kept = keeps_known (k.taken c.args.sink.now) (k.taken c.read_lines.new.sink) before taken c.read_lines.ensures.silent.keeps in
+    (read.0, read.1, unread_on c.read_lines.result c.in-Err.fault g.T.RaceTelling.race_text_on c.args.on.from bytes before read.0 (k.taken c.read_lines.new.sink) c.in-Err.is read.2 kept)
 
 pub returns-in-Err-clause-counts : goal.returns-in-Err-clause-counts
 returns-in-Err-clause-counts g c =
-    let counts = c.in-Err.ensures.silent.counts in
+    let counts = c.read_lines.ensures.silent.counts in
     record {
       asked = counts.asked;
-      read_failed = counts.read_failed ∙ ap (λ n. g.S.Source.failures c.args.source.now + n) (same_reads _ _ c.in-Err.fault);
-      write_failed = counts.write_failed ∙ ap (λ n. g.K.Sink.failures c.args.sink.now + n) (same_writes _ _ c.in-Err.fault);
+      read_failed = counts.read_failed ∙ ap (λ n. g.S.Source.failures c.args.source.now + n) (same_reads c.read_lines.result c.in-Err.fault c.in-Err.is);
+      write_failed = counts.write_failed ∙ ap (λ n. g.K.Sink.failures c.args.sink.now + n) (same_writes c.read_lines.result c.in-Err.fault c.in-Err.is);
     }

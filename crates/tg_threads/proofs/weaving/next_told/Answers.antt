@@ -16,10 +16,10 @@ returns-clause-own g c = λ x brought by has.
     let below : w < length names = runner_below names w c.args.line.now c.requires.some by_w in
     let low : w < length c.args.finished.now = omega (arith, below, c.requires.each) in
     let read : c.index-at.result.now ≡ slice_index seen w = c.index-at.ensures ∙ get_or_default_zero seen w c.index-at.result.now (omega (arith, below, c.requires.places)) in
-    let f = c.index-finished-worker.result in
+    let f = c.index-finished-thread.result in
     let t = c.index-told.result.now in
-    let is : t ≡ get_or f.told.items (slice_index seen w) t = c.index-told.ensures ∙ (λ i. get_or (sym c.index-finished-worker.is i).told.items (read i) t) in
-    let told = next_one (λ h. h.told.items) c.args.finished.now seen w f brought t low c.index-finished-worker.is (subst (λ y. slice_get (map (λ h. h.told.items) c.args.finished.now) y ≡ Some brought) (sym same) has) (c.requires.more w by_w) is in (
+    let is : t ≡ get_or f.told.items (slice_index seen w) t = c.index-told.ensures ∙ (λ i. get_or (sym c.index-finished-thread.is i).told.items (read i) t) in
+    let told = next_one (λ h. h.told.items) c.args.finished.now seen w f brought t low c.index-finished-thread.is (subst (λ y. slice_get (map (λ h. h.told.items) c.args.finished.now) y ≡ Some brought) (sym same) has) (c.requires.more w by_w) is in (
       subst (λ y. slice_get brought (slice_index seen y) ≡ Some t) same told,
       (λ i. slice_set seen w (read i + 1)) ∙ ap (λ (y : ℕ). slice_set seen y (slice_index seen y + 1)) same,
     )
@@ -33,5 +33,5 @@ index-told-requires g c =
     let below : w < length names = runner_below names w c.args.line.now c.requires.some by in
     let low : w < length c.args.finished.now = omega (arith, below, c.requires.each) in
     let read : c.index-at.result.now ≡ slice_index seen w = c.index-at.ensures ∙ get_or_default_zero seen w c.index-at.result.now (omega (arith, below, c.requires.places)) in
-    let f = get_or c.args.finished.now w c.index-finished-worker.result in
-    subst (λ (m : ℕ). c.index-at.result.now < m) (sym f.told.ok.0) (next_inside (λ h. h.told.items) c.args.finished.now seen w c.index-at.result.now f c.index-finished-worker.result low refl read (c.requires.more w by))
+    let f = get_or c.args.finished.now w c.index-finished-thread.result in
+    subst (λ (m : ℕ). c.index-at.result.now < m) (sym f.told.ok.0) (next_inside (λ h. h.told.items) c.args.finished.now seen w c.index-at.result.now f c.index-finished-thread.result low refl read (c.requires.more w by))
