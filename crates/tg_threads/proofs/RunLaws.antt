@@ -1,6 +1,6 @@
 -- What a session's calls come to, line by line.
 use Rattle.std.proofs.Common.{◌≡◌, ◌≢◌, ◌⊎◌, inl, inr, ℕ, Bool, true, false, if◌then◌else◌, List, [], ◌∷◌, ◌++◌, Option, Some, None, Result, Ok, Err, refl, sym, ap, ◌∙◌, subst, append-nil, append_assoc, length, ◌+◌, ◌<◌, arith}
-use Rattle.std.specs.Prelude.{◌↔◌, IfOk, map, nat_lt}
+use Rattle.std.specs.Prelude.{◌↔◌, IfOk, map}
 use Rattle.std.proofs.lemmas.Bool.{false≢true}
 use Rattle.std.specs.List.{All}
 use Rattle.std.proofs.lemmas.Grind.{flat_map-append}
@@ -40,11 +40,10 @@ use Rattle.tg_threads.specs.declared.threads.ThreadsFault.TheVariants as threads
 use Rattle.tg_threads.specs.declared.task.Told.{Told}
 use Rattle.tg_threads.specs.declared.task.Told.TheVariants as came
 use Rattle.tg_threads.specs.Boxes.{Boxed}
-use Rattle.tg_threads.proofs.ShareLaws.{named}
 use Rattle.tg_threads.proofs.FrontLaws.{front_seen, runs_wider}
 use Rattle.tg_threads.proofs.AssignedLaws.{mapped_each}
-use Rattle.tg_threads.specs.Output.{Arena, AtFront, EntersOrRefuses, TellsCollection, TellsMade, IsOfStore, IsServed, Tells, arena_of, has_thread}
-use Rattle.tg_threads.specs.Tasks.{IsRunBy, HasAsked, HasMadeVertex, HasCollected, HasRun, RunsOne, Runs, is_deed, served_past, subject_spawned, subjects_spawned}
+use Rattle.tg_threads.specs.Output.{Arena, AtFront, EntersOrRefuses, TellsCollection, TellsMade, IsOfStore, IsServed, Tells, arena_of}
+use Rattle.tg_threads.specs.Tasks.{IsRunFor, HasAsked, HasMadeVertex, HasCollected, HasRun, RunsOne, Runs, is_deed, served_past, subject_spawned, subjects_spawned}
 
 -- ---- why a session refuses
 
@@ -166,10 +165,6 @@ none_spawned receipts sessions none empty =
 
 -- ---- one line
 
--- the worker whose thread runs a line of x
-abbrev pub runner_named : ℕ → ℕ → Option ℕ
-runner_named workers x = if nat_lt x workers then Some x else None
-
 -- a session that keeps its receipts gets none
 none_more : (old new : SessionState) → KeepsReceipts old new → (new.worker ≡ old.worker) × (new.receipts ≡ old.receipts ++ []) × (new.handed ≡ old.handed)
 none_more old new keeps = (keeps.0, keeps.1 ∙ sym (append-nil old.receipts), keeps.2)
@@ -178,17 +173,17 @@ looked_none : (old new : SessionState) → HasLooked old new → (new.worker ≡
 looked_none old new looked = (looked.kept.0, looked.kept.1 ∙ sym (append-nil old.receipts), looked.kept.2)
 
 -- the line's worker is the session's, whose lines are run
-served_by : (workers x : ℕ) (served : ℕ → Bool) (old : SessionState) → runner_named workers x ≡ Some old.worker → served old.worker ≡ true → served x ≡ true
-served_by workers x served old by is = subst (λ n. served n ≡ true) (sym (named x workers old.worker by).1) is
+served_by : (x : ℕ) (served : ℕ → Bool) (old : SessionState) → x ≡ old.worker → served old.worker ≡ true → served x ≡ true
+served_by x served old by is = subst (λ n. served n ≡ true) (sym by) is
 
 as_served : (b : Bool) (asked : Type 0) (e : Option Entry) (a : Answer) → b ≡ true → asked → IsServed b asked e a
 as_served true asked e a is h = h
 as_served false asked e a is h = absurd (false≢true is)
 
 -- the entry of a deed, and a refusal of the store, as a line of x is reported of them
-asked_told : (arena : Arena) (workers x : ℕ) (served : ℕ → Bool) (d : Deed) (e : Option Entry) (a : Answer) (old : SessionState) → runner_named workers x ≡ Some old.worker → served old.worker ≡ true → EntersOrRefuses arena.shared arena.entries old.worker d e a → IsServed (served x) (EntersOrRefuses arena.shared arena.entries x d e a) e a
-asked_told arena workers x served d e a old by is h =
-    as_served (served x) (EntersOrRefuses arena.shared arena.entries x d e a) e a (served_by workers x served old by is) (subst (λ n. EntersOrRefuses arena.shared arena.entries n d e a) (sym (named x workers old.worker by).1) h)
+asked_told : (arena : Arena) (x : ℕ) (served : ℕ → Bool) (d : Deed) (e : Option Entry) (a : Answer) (old : SessionState) → x ≡ old.worker → served old.worker ≡ true → EntersOrRefuses arena.shared arena.entries old.worker d e a → IsServed (served x) (EntersOrRefuses arena.shared arena.entries x d e a) e a
+asked_told arena x served d e a old by is h =
+    as_served (served x) (EntersOrRefuses arena.shared arena.entries x d e a) e a (served_by x served old by is) (subst (λ n. EntersOrRefuses arena.shared arena.entries n d e a) (sym by) h)
 
 -- the arena as the session has it
 abbrev pub arena_now : SharedStart → ℕ → SessionState → Arena
@@ -206,22 +201,19 @@ told_runs shared helpers served b d (came.Refused r) old new tells h =
     let k = looked_none old new h.1 in
     ([], k.0, k.1, k.2, (refl, tells None (answer.Refused r) (r, h.0, refl)), h.1.grown)
 
-pub asked_runs : (shared : SharedStart) (helpers workers x : ℕ) (served : ℕ → Bool) (command : Command) (box : Option Value) (t : Told) (old new : SessionState) → served old.worker ≡ true → IsRunBy workers old.worker (record { line = line.Plain x command; value = box }) →
+pub asked_runs : (shared : SharedStart) (helpers x : ℕ) (served : ℕ → Bool) (command : Command) (box : Option Value) (t : Told) (old new : SessionState) → served old.worker ≡ true → x ≡ old.worker →
     HasAsked shared (deed.Plain command) t old new → HasRun (arena_now shared helpers new) served (record { line = line.Plain x command; value = box }) t old new
-asked_runs shared helpers workers x served command box t old new is by =
+asked_runs shared helpers x served command box t old new is by =
     told_runs shared helpers served (record { line = line.Plain x command; value = box }) (deed.Plain command) t old new
-    (λ e a told. asked_told (arena_now shared helpers new) workers x served (deed.Plain command) e a old by is told)
+    (λ e a told. asked_told (arena_now shared helpers new) x served (deed.Plain command) e a old by is told)
 
 -- the same of a deed that makes a vertex
-pub made_runs : (shared : SharedStart) (helpers workers x : ℕ) (served : ℕ → Bool) (b : Boxed) (making : Value → Deed) (t : Told) (old new : SessionState) → served old.worker ≡ true → runner_named workers x ≡ Some old.worker →
+pub made_runs : (shared : SharedStart) (helpers x : ℕ) (served : ℕ → Bool) (b : Boxed) (making : Value → Deed) (t : Told) (old new : SessionState) → served old.worker ≡ true → x ≡ old.worker →
     ((e : Option Entry) (a : Answer) → IsServed (served x) (TellsMade shared (entries_of new.seen) x making b.value e a) e a → Tells (arena_now shared helpers new) served b.line b.value e a) →
     HasMadeVertex shared making b.value t old new → HasRun (arena_now shared helpers new) served b t old new
-made_runs shared helpers workers x served b making t old new is by tells h = by_box b.value refl h where
+made_runs shared helpers x served b making t old new is same tells h = by_box b.value refl h where
   on : served x ≡ true
-  on = served_by workers x served old by is
-
-  same : x ≡ old.worker
-  same = (named x workers old.worker by).1
+  on = served_by x served old same is
 
   by_box : (box : Option Value) → b.value ≡ box → HasMadeVertex shared making box t old new → HasRun (arena_now shared helpers new) served b t old new
   by_box None none h =
@@ -282,26 +274,26 @@ all_next {X = X} P xs x ys all is h = go xs (subst (All P) (sym is) h) where
 pub mapped_at : {X Y : Type 0} (f : X → Y) (P : Y → Type 0) (xs : List X) (x : X) (ys all : List X) → (xs ++ x ∷ []) ++ ys ≡ all → All P (map f all) → P (f x)
 mapped_at f P xs x ys all is h = all_next (λ x. P (f x)) xs x ys all is (mapped_each f P all h)
 
--- Lines of worker x were run, came to this, and its lines are run after them or not.
-pub record HasRunSo (shared : SharedStart) (helpers workers x : ℕ) (served : Bool) (bs : List Boxed) (ts : List Told) (s : SessionState) : Type 0 where
+-- Lines of worker x were run, came to this, and its lines are run after them or not. At first the lines of these workers were run.
+pub record HasRunSo (shared : SharedStart) (helpers : ℕ) (first : ℕ → Bool) (x : ℕ) (served : Bool) (bs : List Boxed) (ts : List Told) (s : SessionState) : Type 0 where
   pub worker : s.worker ≡ x
   pub handed : s.handed ≡ 0
-  pub runs : Runs (arena_now shared helpers s) (has_thread workers) bs ts s.receipts
-  pub behind : served_after (has_thread workers) bs ts x ≡ served
+  pub runs : Runs (arena_now shared helpers s) first bs ts s.receipts
+  pub behind : served_after first bs ts x ≡ served
 
 -- a session ran one line more
-pub run_more : (shared : SharedStart) (helpers workers x : ℕ) (served next : Bool) (bs : List Boxed) (ts : List Told) (old new : SessionState) (b : Boxed) (t : Told) → HasRunSo shared helpers workers x served bs ts old → IsRunBy workers x b →
-    ((before : ℕ → Bool) → before old.worker ≡ served → IsRunBy workers old.worker b → HasRun (arena_now shared helpers new) before b t old new) →
-    ((before : ℕ → Bool) → before new.worker ≡ served → next ≡ served_past before b.line t new.worker) → HasRunSo shared helpers workers x next (bs ++ b ∷ []) (ts ++ t ∷ []) new
-run_more shared helpers workers x served next bs ts old new b t held by step past =
-    let before : ℕ → Bool = served_after (has_thread workers) bs ts in
-    let h = step before (ap before held.worker ∙ held.behind) (subst (λ n. IsRunBy workers n b) (sym held.worker) by) in
+pub run_more : (shared : SharedStart) (helpers : ℕ) (first : ℕ → Bool) (x : ℕ) (served next : Bool) (bs : List Boxed) (ts : List Told) (old new : SessionState) (b : Boxed) (t : Told) → HasRunSo shared helpers first x served bs ts old → IsRunFor x b.line →
+    ((before : ℕ → Bool) → before old.worker ≡ served → IsRunFor old.worker b.line → HasRun (arena_now shared helpers new) before b t old new) →
+    ((before : ℕ → Bool) → before new.worker ≡ served → next ≡ served_past before b.line t new.worker) → HasRunSo shared helpers first x next (bs ++ b ∷ []) (ts ++ t ∷ []) new
+run_more shared helpers first x served next bs ts old new b t held by step past =
+    let before : ℕ → Bool = served_after first bs ts in
+    let h = step before (ap before held.worker ∙ held.behind) (subst (λ n. IsRunFor n b.line) (sym held.worker) by) in
     let worker : new.worker ≡ x = h.1 ∙ held.worker in
-    let runs = runs_wider shared helpers (entries_of old.seen) (entries_of new.seen) (begins_entries new.seen old.seen h.5) (has_thread workers) bs ts old.receipts held.runs in
-    let more = runs_more (arena_now shared helpers new) (has_thread workers) bs ts old.receipts b t h.0 runs h.4 in
+    let runs = runs_wider shared helpers (entries_of old.seen) (entries_of new.seen) (begins_entries new.seen old.seen h.5) first bs ts old.receipts held.runs in
+    let more = runs_more (arena_now shared helpers new) first bs ts old.receipts b t h.0 runs h.4 in
     record {
       worker = worker;
       handed = h.3 ∙ held.handed;
-      runs = subst (λ r. Runs (arena_now shared helpers new) (has_thread workers) (bs ++ b ∷ []) (ts ++ t ∷ []) r) (sym h.2) more.0;
+      runs = subst (λ r. Runs (arena_now shared helpers new) first (bs ++ b ∷ []) (ts ++ t ∷ []) r) (sym h.2) more.0;
       behind = (λ i. more.1 i x) ∙ ap (λ n. served_past before b.line t n) (sym worker) ∙ sym (past before (ap before worker ∙ held.behind));
     }

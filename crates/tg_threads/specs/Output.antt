@@ -1,13 +1,14 @@
 -- The text that is written for a script whose workers run their lines side by side. These definitions leave out threads, and how
 -- replies are kept and written. Of the lock they say only that some store may have been in it.
-use Rattle.std.specs.Prelude.{◌≡◌, ◌≢◌, ◌⊎◌, ℕ, ◌==◌, Bool, true, false, if◌then◌else◌, nat_lt, List, [], ◌∷◌, ◌++◌, length, Option, Some, None}
-use Rattle.std.specs.List.{All, filter}
+use Rattle.std.specs.Prelude.{◌≡◌, ◌≢◌, ◌⊎◌, ℕ, ◌+◌, ◌-◌, ◌==◌, Bool, true, false, if◌then◌else◌, nat_lt, List, [], ◌∷◌, ◌++◌, length, Option, Some, None}
+use Rattle.std.specs.List.{All, filter, flat_map}
 use Rattle.std.specs.Option.{option_to_list}
 use Rattle.tg_model.specs.declared.value.Value.{Value}
 use Rattle.tg_model.specs.declared.command.Command.TheVariants.{Retire}
 use Rattle.tg_model.specs.declared.command.Deed.{Deed}
 use Rattle.tg_model.specs.declared.command.Deed.TheVariants as deed
 use Rattle.tg_model.specs.declared.reply.Reply.TheVariants as reply
+use Rattle.tg_model.specs.Graph.{ProtectionGraph}
 use Rattle.tg_model.specs.Opened.{IsPlan, Plan}
 use Rattle.tg_model.specs.Rules.{IsAllowed}
 use Rattle.tg_word.specs.Word.{nursery_space}
@@ -21,10 +22,11 @@ use Rattle.tg_store.specs.Room.{LacksRoomToCollect}
 use Rattle.tg_store.specs.Origin.{Origin, opened_by}
 use Rattle.tg_store.specs.Store.{StoreState, graph_of_store}
 use Rattle.tg_passes.specs.Passes.{BeginsWith}
-use Rattle.tg_shared.specs.Sessions.{AtSome, SharedStart, since}
+use Rattle.tg_shared.specs.Sessions.{AtSome, SharedStart, since, start_of_store}
 use Rattle.tg_journal.specs.declared.entry.Entry.{Entry}
 use Rattle.tg_journal.specs.History.{IsLegal}
-use Rattle.tg_entries.specs.Texts.{history_text}
+use Rattle.tg_entries.specs.Texts.{entry_text, history_text}
+use Rattle.tg_entries.specs.Texts as history
 use Rattle.tg_text.specs.declared.line.Line.{Line}
 use Rattle.tg_text.specs.declared.line.Line.TheVariants as line
 use Rattle.tg_text.specs.declared.answer.Answer.{Answer}
@@ -32,9 +34,11 @@ use Rattle.tg_text.specs.declared.answer.Answer.TheVariants as told
 use Rattle.tg_text.specs.declared.answer.Refusal.{Refusal}
 use Rattle.tg_text.specs.declared.answer.Refusal.TheVariants as refusal
 use Rattle.tg_text.specs.Texts.{answer_text}
+use Rattle.tg_script.specs.declared.going.RunOn.{RunOn}
 use Rattle.tg_script.specs.Entering.{plan_of}
 use Rattle.tg_script.specs.Script.{IsOutput, MayWant, Start, commands_of, create_of, scene_of, spawn_of}
 use Rattle.tg_threads.specs.Boxes.{Boxed, boxed}
+use Rattle.tg_threads.specs.Shares.{is_among}
 use Rattle.tg_threads.specs.Telling.{end_text}
 
 -- ---- what the lines are run in
@@ -162,6 +166,11 @@ HasEach entries made = (x : ℕ) → filter (λ e. e.worker == x) entries ≡ fi
 abbrev pub RaceText : Type 0
 RaceText = Plan → List Entry → List ℕ → List ℕ
 
+-- the text that is written of a race from a history on, by how many entries there are with those of the history, by the entries of
+-- the race, and by the replies to its lines
+abbrev pub RaceTextOn : Type 0
+RaceTextOn = ℕ → List Entry → List ℕ → List ℕ
+
 -- the replies, and after them how many entries there are
 abbrev pub reply_race : RaceText
 reply_race p entries replies = replies ++ end_text (length entries)
@@ -170,12 +179,26 @@ reply_race p entries replies = replies ++ end_text (length entries)
 abbrev pub entry_race : RaceText
 entry_race p entries replies = history_text p entries
 
--- The text may be written for these lines. Their opening is accepted, and there is a legal history of it. Each command line has one
--- entry of the history or none, and the history has no other entries. The entries of each worker are in script order. The replies
--- are in script order too. A command line with an entry has the reply of its entry, and a command line without an entry has a
--- refusal. A collection has one line. The store was a new store of that opening when it was shared. A refusal for room in the heap
--- comes from a store that may have been in the lock with the first of these entries. So does the number of a collection. The text
--- is made of the replies.
+-- the replies, and after them how many entries there are with those of the history
+abbrev pub reply_race_on : RaceTextOn
+reply_race_on total entries replies = replies ++ end_text total
+
+-- the text of the entries, which goes on with the text of the history
+abbrev pub entry_race_on : RaceTextOn
+entry_race_on total entries replies = flat_map entry_text entries ++ history.end_text total
+
+-- The lines were raced from this graph on. The entries since then are a legal history. Each command line has one of them or none,
+-- and there are no other entries. The entries of each worker are in script order. The replies are in script order too. A command
+-- line with an entry has the reply of its entry, and a command line without an entry has a refusal. A collection has one line. A
+-- refusal for room in the heap comes from a store that may have been in the lock with the first of these entries. So does the number
+-- of a collection. These workers have a thread, and nobody else has one.
+pub record IsRaceRun (graph : ProtectionGraph) (arena : Arena) (served : ℕ → Bool) (bs : List Boxed) (made : List Entry) (replies : List ℕ) : Type 0 where
+  pub legal : IsLegal graph arena.entries
+  pub told : AreTold arena served bs made replies
+  pub each : HasEach arena.entries made
+
+-- The text may be written for these lines. Their opening is accepted, and the lines were raced in a store of it. The store was a new
+-- store of that opening when it was shared. The text is made of the entries and the replies.
 pub record IsRaceOutput (race_text : RaceText) (start : Start) (lines : List Line) (text : List ℕ) : Type 0 where
   pub shared : SharedStart
   pub entries : List Entry
@@ -183,10 +206,21 @@ pub record IsRaceOutput (race_text : RaceText) (start : Start) (lines : List Lin
   pub replies : List ℕ
   pub new : IsNewStore (opened_by (plan_of start lines)) start.blocks shared
   pub plan : IsPlan (plan_of start lines)
-  pub legal : IsLegal (scene_of start lines).graph entries
-  pub told : AreTold (arena_of shared start.helpers entries) (has_thread start.workers) (boxed start.stock (commands_of lines)) made replies
-  pub each : HasEach entries made
+  pub run : IsRaceRun (scene_of start lines).graph (arena_of shared start.helpers entries) (has_thread start.workers) (boxed start.stock (commands_of lines)) made replies
   pub text_is : text ≡ race_text (plan_of start lines) entries replies
+
+-- how many entries a history has after which a run goes on
+abbrev pub count_before : {P : Type 0} → RunOn P → ℕ
+count_before from = length from.store.entries - from.skipped
+
+-- The text may be written for these command lines after a history. The lines were raced in the store after the history, each of whose
+-- active subjects has a thread. The text counts the entries of the history too.
+pub record IsRaceOutputOn {P : Type 0} (race_text : RaceTextOn) (from : RunOn P) (lines : List Line) (text : List ℕ) : Type 0 where
+  pub entries : List Entry
+  pub made : List Entry
+  pub replies : List ℕ
+  pub run : IsRaceRun (graph_of_store from.store) (arena_of (start_of_store from.store) from.helpers entries) (is_among (graph_of_store from.store).subjects) (boxed from.stock.items lines) made replies
+  pub text_is : text ≡ race_text (count_before from + length entries) entries replies
 
 -- ---- if there is one worker
 

@@ -1,5 +1,5 @@
 -- The results of a worker's lines on its thread, and how the parts of a race agree with the report on it.
-use Rattle.std.specs.Prelude.{◌≡◌, ◌≢◌, ℕ, ◌+◌, ◌<◌, ◌≤◌, Bool, true, false, if◌then◌else◌, List, [], ◌∷◌, ◌++◌, length, map, Option, Some, None, Result, IfOk, IfErr}
+use Rattle.std.specs.Prelude.{◌≡◌, ◌≢◌, ℕ, ◌+◌, ◌<◌, ◌≤◌, Bool, true, false, if◌then◌else◌, List, [], ◌∷◌, ◌++◌, length, map, slice_index, Option, Some, None, Result, IfOk, IfErr}
 use Rattle.std.specs.List.{All, flat_map, range_with_len}
 use Rattle.std.specs.Vec.{vec_capacity, vec_len}
 use Rattle.std.specs.declared.vec.Vec.{Vec}
@@ -30,9 +30,9 @@ use Rattle.tg_threads.specs.declared.task.Told.TheVariants as came
 use Rattle.tg_threads.specs.declared.work.Work.{Work}
 use Rattle.tg_threads.specs.declared.work.Finished.{Finished}
 use Rattle.tg_threads.specs.Boxes.{Boxed, boxed_of}
-use Rattle.tg_threads.specs.Shares.{runner_of, share_of, lines_in}
+use Rattle.tg_threads.specs.Shares.{is_among, share_of, lines_in}
 use Rattle.tg_threads.specs.Telling.{IsThere, text_of_told}
-use Rattle.tg_threads.specs.Output.{Arena, Tells, IsCountTold, IsOfStore, IsUncollected, AreTold, HasEach, arena_of, has_thread, is_retire_of}
+use Rattle.tg_threads.specs.Output.{Arena, Tells, IsCountTold, IsOfStore, IsUncollected, AreTold, HasEach, arena_of, is_retire_of}
 
 -- ---- the result of a line
 
@@ -96,14 +96,19 @@ Runs arena served (b ∷ bs) ts rs =
     (t : Told) × (ts' : List Told) × (more : List Receipt) × (rs' : List Receipt) × (ts ≡ t ∷ ts') × (rs ≡ more ++ rs') × RunsOne arena served b t more
     × Runs arena (served_past served b.line t) bs ts' rs'
 
-abbrev pub IsRunBy : ℕ → ℕ → Boxed → Type 0
-IsRunBy workers x b = runner_of workers b.line ≡ Some x
+-- the line is x's own, or a collection
+abbrev pub IsRunFor : ℕ → Line → Type 0
+IsRunFor x (line.Edge edge) = ⊥
+IsRunFor x (line.Create y label) = y ≡ x
+IsRunFor x (line.Spawn y label) = y ≡ x
+IsRunFor x (line.Plain y command) = y ≡ x
+IsRunFor x line.Full = Unit {0}
+IsRunFor x line.Minor = Unit {0}
 
--- If the session's worker runs the task's line, the session ran it. This holds however many workers there are, and whichever
--- workers' lines are run.
+-- If the task's line is the session's, the session ran it. This holds whichever workers' lines are run.
 abbrev pub RunsTask : {P : Type 0} → SharedStart → ℕ → Bool → Task P → SessionState → SessionState → Result Told ThreadsFault → Type 0
 RunsTask start helpers served task old new result =
-    (workers : ℕ) (before : ℕ → Bool) → before old.worker ≡ served → IsRunBy workers old.worker (boxed_of task) →
+    (before : ℕ → Bool) → before old.worker ≡ served → IsRunFor old.worker task.line →
     IfOk result (λ told. HasRun (arena_of start helpers (entries_of new.seen)) before (boxed_of task) told old new)
 
 -- Either this is the report on a line of a session's worker. Or there is a fault, and the worker is no subject of a store that may
@@ -133,52 +138,58 @@ pub record KeepsSpawned {A E : Type 0} (most : ℕ) (before after : SessionState
   pub kept : vec_capacity sessions' ≡ vec_capacity sessions
   pub fits : vec_len sessions' ≤ vec_len sessions + most
 
--- The session of one of so many workers ran all lines that its thread was given, with these results. There is a session for each
+-- The session of x ran all lines that its thread was given, with these results, if its lines are run. There is a session for each
 -- subject that the lines made, which ran no line. None of the sessions handed out a receipt.
-abbrev pub Brings : Arena → ℕ → ℕ → List Boxed → Finished SessionState → Type 0
-Brings arena workers x bs f =
-    x < workers → All (IsRunBy workers x) bs → (f.session.worker ≡ x) × Runs arena (has_thread workers) bs f.told.items f.session.receipts × AreFresh (subjects_spawned f.session.receipts) f.spawned.items × (f.session.handed ≡ 0)
+abbrev pub Brings : Arena → ℕ → List Boxed → Finished SessionState → Type 0
+Brings arena x bs f =
+    (served : ℕ → Bool) → served x ≡ true → All (λ b. IsRunFor x b.line) bs → (f.session.worker ≡ x) × Runs arena served bs f.told.items f.session.receipts × AreFresh (subjects_spawned f.session.receipts) f.spawned.items × (f.session.handed ≡ 0)
 
 -- the arena of a session that came back, which has the entries that the session has seen
 abbrev pub arena_seen : SharedStart → ℕ → Finished SessionState → Arena
 arena_seen shared helpers f = arena_of shared helpers (entries_of f.session.seen)
 
 -- The session ran these lines, or else there is a fault, which isn't the lack of a thread.
-pub record RunsTasks (shared : SharedStart) (helpers workers x : ℕ) (bs : List Boxed) (result : Result (Finished SessionState) ThreadsFault) : Type 0 where
-  pub brought : IfOk result (λ finished. Brings (arena_seen shared helpers finished) workers x bs finished)
+pub record RunsTasks (shared : SharedStart) (helpers x : ℕ) (bs : List Boxed) (result : Result (Finished SessionState) ThreadsFault) : Type 0 where
+  pub brought : IfOk result (λ finished. Brings (arena_seen shared helpers finished) x bs finished)
   pub fault : IfErr result (λ fault. fault ≢ threads.NoThread)
 
 -- the worker, and the lines that its thread is given
 abbrev pub assigned_of : {P : Type 0} → Work SessionState P → ℕ × List Boxed
 assigned_of w = (w.session.worker, lines_in w)
 
--- each worker, by number, and the lines that its thread is given, which are all lines that it runs
-abbrev pub all_assigned : ℕ → List Boxed → List (ℕ × List Boxed)
-all_assigned workers bs = map (λ x. (x, share_of workers x bs)) (range_with_len 0 workers)
+-- each worker, by thread, and the lines that its thread is given, which are all lines that it runs
+abbrev pub all_assigned : List ℕ → List Boxed → List (ℕ × List Boxed)
+all_assigned names bs = map (λ k. (slice_index names k, share_of names k bs)) (range_with_len 0 (length names))
 
 -- the same, as a thread's handle has it
 abbrev pub promised_by : {T P : Type 0} → PromisedHandle T (Assigned P) → ℕ × List Boxed
 promised_by h = (h.promise.worker, map boxed_of h.promise.tasks.value.items)
 
 -- each of them ran its lines
-abbrev pub AllBring : SharedStart → ℕ → ℕ → List (ℕ × List Boxed) → List (Finished SessionState) → Type 0
-AllBring shared helpers workers [] all = all ≡ []
-AllBring shared helpers workers (a ∷ given) all =
-    (f : Finished SessionState) × (more : List (Finished SessionState)) × (all ≡ f ∷ more) × Brings (arena_seen shared helpers f) workers a.0 a.1 f
-    × AllBring shared helpers workers given more
+abbrev pub AllBring : SharedStart → ℕ → List (ℕ × List Boxed) → List (Finished SessionState) → Type 0
+AllBring shared helpers [] all = all ≡ []
+AllBring shared helpers (a ∷ given) all =
+    (f : Finished SessionState) × (more : List (Finished SessionState)) × (all ≡ f ∷ more) × Brings (arena_seen shared helpers f) a.0 a.1 f
+    × AllBring shared helpers given more
 
 -- ---- the results with the entries of the journal
 
--- The lines had these results, with these entries in the journal. Each entry is at the place that its result says. The lines made
--- these entries in script order, and the journal has no others.
-pub record AreRaced (arena : Arena) (workers : ℕ) (bs : List Boxed) (entries : List Entry) (ts : List Told) : Type 0 where
+-- The lines had these results, with these entries in the journal, where the workers with these names have a thread. Each entry is at
+-- the place that its result says. The lines made the entries since the store was shared, in script order, and no others.
+pub record AreRaced (arena : Arena) (names : List ℕ) (bs : List Boxed) (entries : List Entry) (ts : List Told) : Type 0 where
   pub made : List Entry
-  pub told : AreTold arena (has_thread workers) bs made (text_of_told entries ts)
-  pub each : HasEach entries made
-  pub there : All (IsThere entries) ts
+  pub told : AreTold arena (is_among names) bs made (text_of_told entries ts)
+  pub each : HasEach arena.entries made
+  pub there : All (IsThere arena.shared.handed entries) ts
+
+-- each place in the results is the place of an entry that the journal holds, and so is the first entry of a race, or it is its end
+pub record MayTellOn (start first : ℕ) (entries : List Entry) (ts : List Told) : Type 0 where
+  pub held : start ≤ first
+  pub within : first ≤ length entries
+  pub there : All (IsThere start entries) ts
 
 -- the journal is whole and was audited, and each place in the results is the place of one of its entries
 pub record MayTell (start : ℕ) (entries : List Entry) (ts : List Told) (audited : ℕ) : Type 0 where
   pub whole : start ≡ 0
-  pub there : All (IsThere entries) ts
+  pub there : All (IsThere start entries) ts
   pub number : audited ≡ length entries

@@ -1,5 +1,5 @@
 -- The text that is written of the results of the lines, with the entries of the journal.
-use Rattle.std.specs.Prelude.{ℕ, ◌<◌, List, [], ◌∷◌, ◌++◌, length, Option, Some, None, slice_get, codes, decimal}
+use Rattle.std.specs.Prelude.{ℕ, ◌<◌, ◌≤◌, List, [], ◌∷◌, ◌++◌, length, Option, Some, None, slice_get, codes, decimal}
 use Rattle.std.specs.List.{flat_map}
 use Rattle.tg_journal.specs.declared.entry.Entry.{Entry}
 use Rattle.tg_text.specs.declared.answer.Answer.{Answer}
@@ -18,11 +18,11 @@ told_answer entries (came.Entered at) = entry_answer (slice_get entries at)
 told_answer entries (came.Collected kept) = answer.Collected kept
 told_answer entries (came.Refused r) = answer.Refused r
 
--- the place of an entry in a result is the place of an entry of the journal
-abbrev pub IsThere : List Entry → Told → Type 0
-IsThere entries (came.Entered at) = at < length entries
-IsThere entries (came.Collected kept) = Unit {0}
-IsThere entries (came.Refused r) = Unit {0}
+-- the place of an entry in a result is the place of an entry of the journal, from its first place on
+abbrev pub IsThere : ℕ → List Entry → Told → Type 0
+IsThere first entries (came.Entered at) = (first ≤ at) × (at < length entries)
+IsThere first entries (came.Collected kept) = Unit {0}
+IsThere first entries (came.Refused r) = Unit {0}
 
 abbrev pub text_of_told : List Entry → List Told → List ℕ
 text_of_told entries ts = flat_map (λ t. answer_text (told_answer entries t)) ts

@@ -2,6 +2,7 @@
 
 use crate::threads::ThreadsFault;
 use std::alloc::{AllocError, AllocFailed};
+use tg_journal::PartFault;
 use tg_payload::Payload;
 use tg_shared::SharedRefused;
 use tg_store::StoreAuditFault;
@@ -24,7 +25,7 @@ pub enum RaceFault {
     /// no retire of the worker was entered.
     #[error("receipt mismatch")]
     ReceiptMismatch,
-    /// The journal isn't a legal history of the script's opening.
+    /// The journal isn't a legal history of the script's opening, or of the history that the race goes on from.
     #[error("audit failed")]
     AuditFailed,
     /// The writer came to an error, took no byte, or failed to flush.
@@ -105,6 +106,20 @@ impl From<StoreAuditFault> for RaceFault {
         match fault {
             StoreAuditFault::OutOfMemory => RaceFault::OutOfMemory,
             StoreAuditFault::NotWhole | StoreAuditFault::BadEntry { .. } => RaceFault::AuditFailed,
+        }
+    }
+}
+
+impl From<PartFault> for RaceFault {
+    ghost use Rattle.std.specs.Prelude.{◌≡◌};
+    ghost use Rattle.tg_threads.specs.Race.{race_fault_of_part};
+
+    ghost from_gives = { λ fault e. e ≡ race_fault_of_part fault };
+
+    fn from(fault: PartFault) -> RaceFault {
+        match fault {
+            PartFault::OutOfMemory { .. } => RaceFault::OutOfMemory,
+            PartFault::BadPlace { .. } | PartFault::BadEntry { .. } => RaceFault::AuditFailed,
         }
     }
 }

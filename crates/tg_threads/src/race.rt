@@ -1,11 +1,11 @@
 //! A whole script, whose workers run their lines side by side.
-ghost use Rattle.std.specs.Prelude.{◌≡◌, ◌⊎◌, ◌+◌, ◌<◌, ◌≤◌, ℕ, List, [], None, Some, false, IfErr, IfOk, length};
-ghost use Rattle.std.specs.List.{All, range_with_len};
+ghost use Rattle.std.specs.Prelude.{◌≡◌, ◌⊎◌, ◌+◌, ◌<◌, ◌≤◌, ℕ, List, [], None, Some, IfErr, IfOk, length, map};
+ghost use Rattle.std.specs.List.{All};
 ghost use Rattle.tg_model.specs.declared.value.Value.{Value};
 ghost use Rattle.tg_script.specs.Opening.{IsCommand};
 ghost use Rattle.tg_script.specs.Script.{MayStart, start_of_setup, start_with};
-ghost use Rattle.tg_shared.specs.Sessions.{AreFresh, MayShare};
-ghost use Rattle.tg_threads.specs.Race.{CountsRace, FinishesRace, HasFinished, HasRanLines, IsBeforeWriting, IsClosedRace, IsRaceDue, IsUnclosedRace, LeavesRaced, MayCloseRace, MayRace, OpensRace, OpensSilently, RacesFrom, RunsRace};
+ghost use Rattle.tg_shared.specs.Sessions.{AreFresh, MayShare, start_of_store, subjects_at};
+ghost use Rattle.tg_threads.specs.Race.{CountsRace, FinishesRace, HasFinished, HasRanLines, IsBeforeWriting, IsClosedRace, IsRaceDue, IsUnclosedRace, LeavesRaced, MayCloseRace, MayRace, MayShareForRace, OpensRace, OpensSilently, RacesFrom, RunsRace, race_from};
 
 use crate::fault::RaceFault;
 use crate::host::{RaceContext, RaceHost};
@@ -15,7 +15,7 @@ use crate::telling::RaceTelling;
 use crate::threads::run_threads;
 use crate::turnstile::Turnstile;
 use crate::weaving::{in_script_order, sessions_of};
-use std::alloc::Global;
+use std::alloc::{AllocError, Global};
 use std::marker::Brand;
 use std::sync::Wait;
 use std::thread::Threads;
@@ -65,7 +65,7 @@ pub fn run_race<
     stock: Vec<Draft<P>>,
 ) -> Result<(), RaceFault>
     requires startable { MayStart settings workers.items }
-    ensures raced { RacesFrom S.left S.asked S.failures K.taken source.old source.new sink.old sink.new T.race_text (start_with settings workers.items stock.items) result }
+    ensures raced { RacesFrom S.left S.asked S.failures K.taken source.old source.new sink.old sink.new (race_from T.race_text (start_with settings workers.items stock.items)) result }
     ensures finish { FinishesRace K.failures K.finished sink.old sink.new result }
 {
     let host = RaceHost {
@@ -83,7 +83,7 @@ pub fn run_race<
 }
 
 // Finishes the sink. A fault that came before stays.
-fn finish<K: Sink>(sink: &mut K, outcome: Result<(), RaceFault>) -> Result<(), RaceFault>
+pub(crate) fn finish<K: Sink>(sink: &mut K, outcome: Result<(), RaceFault>) -> Result<(), RaceFault>
     ensures { HasFinished K.taken K.failures K.finished sink.old sink.new outcome result }
 {
     if sink.finish() {
@@ -105,7 +105,7 @@ fn race<
     R: Threads + Wait + Sync,
 >(host: &RaceHost<G, R>, source: &mut S, sink: &mut K, setup: RunSetup<P>) -> Result<(), RaceFault>
     requires startable { MayStart setup.settings setup.workers.items }
-    ensures output { LeavesRaced S.left K.taken source.old source.new sink.old sink.new T.race_text (start_of_setup setup) result }
+    ensures output { LeavesRaced S.left K.taken source.old source.new sink.old sink.new (race_from T.race_text (start_of_setup setup)) result }
     ensures due { IfErr result (IsRaceDue (start_of_setup setup)) }
     ensures counts { CountsRace S.asked S.failures K.failures source.old source.new sink.old sink.new result }
 {
@@ -122,11 +122,11 @@ fn race<
     told
 }
 
-// A store with no entry, and the lines that are to be run in it.
+// A store, and the lines that are to be run in it.
 #[derive(Drop)]
 pub(crate) struct OpenedRace<P: Payload> {
-    store: Store<P>,
-    lines: Vec<Line>,
+    pub(crate) store: Store<P>,
+    pub(crate) lines: Vec<Line>,
 }
 
 // Reads the whole script, and opens its store.
@@ -156,9 +156,9 @@ fn open_race<P: Payload, S: Source, K: Sink>(
 
 // The store once all lines were run, and what they came to, in script order.
 #[derive(Drop)]
-struct Raced<P: Payload> {
-    store: Store<P>,
-    told: Vec<Told>,
+pub(crate) struct Raced<P: Payload> {
+    pub(crate) store: Store<P>,
+    pub(crate) told: Vec<Told>,
 }
 
 impl<P: Payload> Raced<P> {
@@ -169,7 +169,7 @@ impl<P: Payload> Raced<P> {
 
     // Audits the journal, and writes the text of the race.
     fn tell<T: RaceTelling, K: Sink>(&self, alloc: Global, sink: &mut K) -> Result<(), RaceFault>
-        requires there { All (IsThere self.now.store.entries) self.now.told.items }
+        requires there { All (IsThere self.now.store.handed self.now.store.entries) self.now.told.items }
         requires none_handed { self.now.store.handed ≡ 0 }
         requires first { self.now.store.opening.shown ≡ None }
         ensures fault { IfErr result IsOfTelling }
@@ -186,21 +186,21 @@ impl<P: Payload> Raced<P> {
     }
 }
 
-// Runs the lines in the store that was opened for them, and closes.
-fn race_opened<P: Payload + Send, G: Turnstile + Sync, R: Threads + Wait + Sync>(
+// Runs the lines in the store, each by the thread of its worker, and closes. Each active subject has a thread.
+pub(crate) fn race_opened<P: Payload + Send, G: Turnstile + Sync, R: Threads + Wait + Sync>(
     host: &RaceHost<G, R>,
     helpers: Helpers,
     opened: OpenedRace<P>,
     stock: Vec<Draft<P>>,
 ) -> Result<Raced<P>, RaceFault>
-    requires raceable { MayRace opened.store.opening opened.store.entries opened.lines.items }
-    ensures run { RunsRace helpers opened.store.heap.table.limits.max_blocks opened.store.opening stock.items opened.lines.items result }
+    requires raceable { MayRace (start_of_store opened.store) opened.lines.items }
+    ensures run { RunsRace helpers (start_of_store opened.store) stock.items opened.lines.items result }
 {
     let blanks = Blanks::new(host.alloc, opened.store.opening().max_vertices() + 1)?;
     share::<Brand, P, G, R>(host, helpers, blanks, opened, stock)
 }
 
-// Shares a store with no entry, runs the lines, and closes.
+// Shares the store, runs the lines, and closes.
 fn share<L: Round + Send + Sync, P: Payload + Send, G: Turnstile + Sync, R: Threads + Wait + Sync>(
     host: &RaceHost<G, R>,
     helpers: Helpers,
@@ -209,9 +209,9 @@ fn share<L: Round + Send + Sync, P: Payload + Send, G: Turnstile + Sync, R: Thre
     stock: Vec<Draft<P>>,
 ) -> Result<Raced<P>, RaceFault>
     requires shareable { MayShare L.name L.parts L.keeper L.start blanks opened.store }
-    requires none_ended { L.start.may_end ≡ false }
-    requires raceable { MayRace opened.store.opening opened.store.entries opened.lines.items }
-    ensures run { RunsRace helpers opened.store.heap.table.limits.max_blocks opened.store.opening stock.items opened.lines.items result }
+    requires whole { MayShareForRace L.start }
+    requires raceable { MayRace L.start opened.lines.items }
+    ensures run { RunsRace helpers L.start stock.items opened.lines.items result }
 {
     let OpenedRace { store, lines } = opened;
     let shared = SharedStore::<L, P>::new(host.alloc, blanks, store)?;
@@ -231,10 +231,10 @@ fn run_shared<
     stock: Vec<Draft<P>>,
     lines: &[Line],
 ) -> Result<Raced<P>, RaceFault>
-    requires none_ended { L.start.may_end ≡ false }
-    requires raceable { MayRace L.start.opening L.start.entries lines.now }
-    requires fresh { AreFresh (range_with_len 0 L.start.opening.plan.workers) shared.sessions.items }
-    ensures run { RunsRace helpers L.start.limits.max_blocks L.start.opening stock.items lines.now result }
+    requires whole { MayShareForRace L.start }
+    requires raceable { MayRace L.start lines.now }
+    requires fresh { AreFresh (subjects_at L.start) shared.sessions.items }
+    ensures run { RunsRace helpers L.start stock.items lines.now result }
 {
     let Shared {
         store,
@@ -274,17 +274,31 @@ fn run_lines<
     stock: Vec<Draft<P>>,
     lines: &[Line],
 ) -> Result<RanLines<Session<L>>, RaceFault>
-    requires some { 1 ≤ L.start.opening.plan.workers }
-    requires fresh { AreFresh (range_with_len 0 L.start.opening.plan.workers) sessions.items }
+    requires some { 1 ≤ length (subjects_at L.start) }
+    requires fresh { AreFresh (subjects_at L.start) sessions.items }
     ensures ran { IfOk result (HasRanLines L.start context.now.helpers stock.items lines.now) }
     ensures fault { IfErr result IsBeforeWriting }
 {
     let alloc = context.host.alloc;
-    let works = share_out(alloc, sessions, stock, lines)?;
+    let names = names_of(alloc, sessions.as_slice())?;
+    let crew = names.as_slice();
+    let works = share_out(alloc, crew, sessions, stock, lines)?;
     let finished = run_threads(context, works)?;
-    let told = in_script_order(alloc, lines, finished.as_slice())?;
+    let brought = finished.as_slice();
+    let told = in_script_order(alloc, crew, lines, brought)?;
     let sessions = sessions_of(alloc, finished)?;
     Ok(RanLines { sessions, told })
+}
+
+// The names of the sessions' workers. Fails only when out of memory.
+fn names_of<L: Round>(alloc: Global, sessions: &[Session<L>]) -> Result<Vec<u64>, AllocError>
+    ensures { IfOk result (λ names. names.items ≡ map (λ s. s.worker) sessions.now) }
+{
+    let mut names = Vec::with_capacity(alloc, sessions.len())?;
+    for session in sessions {
+        names.push(session.worker())?;
+    }
+    Ok(names)
 }
 
 // Closes the store with the sessions that came back.

@@ -13,21 +13,24 @@ use tg_payload::{Draft, Payload};
 use tg_text::Line;
 
 /// Gives each session the lines that it has to run, in script order. Each create line and each spawn line gets its
-/// payload of the stock, by its place among these lines. There is a session for each worker, by number. The payload of
-/// a line that names no worker is dropped. Fails only if memory runs out, and then drops all that was handed in.
+/// payload of the stock, by its place among these lines. There is a session for each worker, in the order of their
+/// names. The payload of a line that names no worker is dropped. Fails only if memory runs out, and then drops all that
+/// was handed in.
 pub fn share_out<S: Drop, P: Payload>(
     alloc: Global,
+    names: &[u64],
     sessions: Vec<S>,
     stock: Vec<Draft<P>>,
     lines: &[Line],
 ) -> Result<Vec<Work<S, P>>, AllocError>
-    requires { 0 < length sessions.items }
+    requires some { 0 < length names.now }
+    requires each { length sessions.items ≡ length names.now }
     ensures sessions { IfOk result (λ works. map (λ w. w.session) works.items ≡ sessions.items) }
-    ensures lines { IfOk result (λ works. map lines_in works.items ≡ all_shares (length sessions.items) (boxed stock.items lines.now)) }
+    ensures lines { IfOk result (λ works. map lines_in works.items ≡ all_shares names.now (boxed stock.items lines.now)) }
 {
     let tasks = box_lines(alloc, stock, lines)?;
     let works = works_of(alloc, sessions)?;
-    deal(works, tasks)
+    deal(names, works, tasks)
 }
 
 // Each line with its payload.
@@ -78,18 +81,19 @@ fn works_of<S: Drop, P: Payload>(
 
 // Gives each worker the lines that its session has to run.
 fn deal<S: Drop, P: Payload>(
+    names: &[u64],
     mut works: Vec<Work<S, P>>,
     tasks: Vec<Task<P>>,
 ) -> Result<Vec<Work<S, P>>, AllocError>
-    requires workers { 0 < length works.items }
+    requires some { 0 < length names.now }
+    requires each { length works.items ≡ length names.now }
     requires none { All (λ w. w.tasks.items ≡ []) works.items }
     ensures sessions { IfOk result (λ dealt. map (λ w. w.session) dealt.items ≡ map (λ w. w.session) works.items) }
-    ensures lines { IfOk result (λ dealt. map lines_in dealt.items ≡ all_shares (length works.items) (map boxed_of tasks.items)) }
+    ensures lines { IfOk result (λ dealt. map lines_in dealt.items ≡ all_shares names.now (map boxed_of tasks.items)) }
 {
-    let workers = works.len() as u64;
     for task in tasks {
-        match runner(workers, &task.line) {
-            Some(worker) => give(&mut works[worker as usize], task)?,
+        match runner(names, &task.line) {
+            Some(thread) => give(&mut works[thread as usize], task)?,
             None => drop(task),
         }
     }

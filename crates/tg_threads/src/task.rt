@@ -1,6 +1,6 @@
 //! The tasks that the lines of a script give to the sessions, and their results.
-ghost use Rattle.std.specs.Prelude.{◌≡◌};
-ghost use Rattle.tg_threads.specs.Shares.{runner_of};
+ghost use Rattle.std.specs.Prelude.{◌≡◌, ◌<◌, IfSome, length};
+ghost use Rattle.tg_threads.specs.Shares.{runner_of, thread_of};
 
 use tg_payload::{Draft, Payload};
 use tg_text::{Line, Refusal};
@@ -25,19 +25,30 @@ pub enum Told {
     Refused(Refusal),
 }
 
-/// The worker whose session runs the line. It is the line's own worker, or worker 0 for a collection.
-pub fn runner(workers: u64, line: &Line) -> Option<u64>
-    ensures { result ≡ runner_of workers line.now }
+/// The thread whose session runs the line, from 0 on. It is the thread of the line's own worker, or the first thread
+/// for a collection. The threads are in the order of their workers' names.
+pub fn runner(names: &[u64], line: &Line) -> Option<u64>
+    ensures thread { result ≡ runner_of names.now line.now }
+    ensures within { IfSome result (λ k. 0 < length names.now → k < length names.now) }
 {
     match line {
         Line::Create { worker, .. } | Line::Spawn { worker, .. } | Line::Plain { worker, .. } => {
-            if *worker < workers {
-                Some(*worker)
-            } else {
-                None
-            }
+            thread_of(names, *worker)
         }
         Line::Full | Line::Minor => Some(0),
         Line::Edge(_) => None,
     }
+}
+
+// The place of the name among the names.
+fn thread_of(names: &[u64], worker: u64) -> Option<u64>
+    ensures thread { result ≡ thread_of names.now worker }
+    ensures within { IfSome result (λ k. 0 < length names.now → k < length names.now) }
+{
+    for (at, name) in names.iter().enumerate() {
+        if *name == worker {
+            return Some(at as u64);
+        }
+    }
+    None
 }

@@ -73,7 +73,7 @@ impl<L: Round, P: Payload> Promise<Result<Finished<L>, ThreadsFault>> for Assign
     ghost use Rattle.tg_threads.specs.Tasks.{Brings, arena_seen};
     ghost use Rattle.tg_threads.specs.Boxes.{boxed_of};
 
-    ghost kept_by = { λ p r. IfErr r (λ fault. fault ≢ NoThread) × IfOk r (λ finished. Brings (arena_seen L.start p.helpers finished) L.start.opening.plan.workers p.worker (map boxed_of p.tasks.value.items) finished) };
+    ghost kept_by = { λ p r. IfErr r (λ fault. fault ≢ NoThread) × IfOk r (λ finished. Brings (arena_seen L.start p.helpers finished) p.worker (map boxed_of p.tasks.value.items) finished) };
 }
 
 /// Gives each worker a thread that runs its lines, and waits for all of them. The results are in the order of the
@@ -90,7 +90,7 @@ pub fn run_threads<
     works: Vec<Work<L, P>>,
 ) -> Result<Vec<Finished<L>>, ThreadsFault>
     requires fresh { All (λ w. HadNone w.session) works.items }
-    ensures { IfOk result (λ all. AllBring L.start context.now.helpers L.start.opening.plan.workers (map assigned_of works.items) all.items) }
+    ensures { IfOk result (λ all. AllBring L.start context.now.helpers (map assigned_of works.items) all.items) }
 {
     let rt = context.host.rt;
     thread::scope(
@@ -98,7 +98,7 @@ pub fn run_threads<
         rt,
         |scope| -> Result<Vec<Finished<L>>, ThreadsFault>
             requires { All (λ w. HadNone w.session) works.items }
-            ensures { IfOk result (λ all. AllBring L.start context.entry.now.helpers L.start.opening.plan.workers (map assigned_of works.items) all.items) }
+            ensures { IfOk result (λ all. AllBring L.start context.entry.now.helpers (map assigned_of works.items) all.items) }
         {
             let handles = start_all(context, scope, works)?;
             join_all(context.host.rt, context.host.alloc, handles)
@@ -159,7 +159,7 @@ fn start<
         assigned,
         move || -> Result<Finished<L>, ThreadsFault>
             requires { HadNone session }
-            ensures ran { RunsTasks L.start context.entry.now.helpers L.start.opening.plan.workers session.worker (map boxed_of tasks.items) result }
+            ensures ran { RunsTasks L.start context.entry.now.helpers session.worker (map boxed_of tasks.items) result }
         { run_tasks(context, session, tasks) },
     ) else {
         return Err(ThreadsFault::NoThread);
@@ -173,7 +173,7 @@ fn join_all<L: Round, P: Payload, R: Threads>(
     alloc: Global,
     handles: Vec<PromisedHandle<Result<Finished<L>, ThreadsFault>, Assigned<P>>>,
 ) -> Result<Vec<Finished<L>>, ThreadsFault>
-    ensures brought { (helpers : ℕ) → All (λ h. h.promise.helpers ≡ helpers) handles.items → IfOk result (λ all. AllBring L.start helpers L.start.opening.plan.workers (map promised_by handles.items) all.items) }
+    ensures brought { (helpers : ℕ) → All (λ h. h.promise.helpers ≡ helpers) handles.items → IfOk result (λ all. AllBring L.start helpers (map promised_by handles.items) all.items) }
     ensures fault { IfErr result (λ fault. fault ≢ ThreadsFault.NoThread) }
 {
     let mut all = Vec::new(alloc);

@@ -8,42 +8,50 @@ use crate::work::Finished;
 use std::alloc::{AllocError, Global};
 use tg_text::{Line, Refusal};
 
-/// The result of each line of the script, in its order. The results come from the sessions, which are listed by the
-/// number of their worker. Each session brings one result for each line that it was given. A line that no session runs
-/// is refused, because it names no worker. Fails only when out of memory.
+/// The result of each line of the script, in its order. The results come from the sessions, which are in the order of
+/// their workers' names. Each session brings one result for each line that it was given. A line that no session runs is
+/// refused, because it names no worker. Fails only when out of memory.
 pub fn in_script_order<S: Drop>(
     alloc: Global,
+    names: &[u64],
     lines: &[Line],
     finished: &[Finished<S>],
 ) -> Result<Vec<Told>, AllocError>
-    requires workers { 0 < length finished.now }
+    requires some { 0 < length names.now }
+    requires each { length finished.now ≡ length names.now }
     requires whole { map (λ f. length f.told.items) finished.now ≡
-        map (λ x. length (filter (is_run_by (length finished.now) x) lines.now)) (range_with_len 0 (length finished.now)) }
-    ensures { IfOk result (λ told. IsInScriptOrder (length finished.now) lines.now (map (λ f. f.told.items) finished.now) told.items) }
+        map (λ k. length (filter (is_run_by names.now k) lines.now)) (range_with_len 0 (length names.now)) }
+    ensures { IfOk result (λ told. IsInScriptOrder names.now lines.now (map (λ f. f.told.items) finished.now) told.items) }
 {
     let mut seen = vec![in alloc; 0usize; finished.len()]?;
     let mut told = Vec::with_capacity(alloc, lines.len())?;
     for line in lines {
-        told.push(next_told(finished, &mut seen, line))?;
+        told.push(next_told(names, finished, &mut seen, line))?;
     }
     Ok(told)
 }
 
-// What the line came to, where so many of each worker's were seen before.
-fn next_told<S: Drop>(finished: &[Finished<S>], seen: &mut Vec<usize>, line: &Line) -> Told
-    requires workers { 0 < length finished.now }
-    requires places { length seen.old.items ≡ length finished.now }
-    requires more { (x : ℕ) → runner_of (length finished.now) line.now ≡ Some x → slice_index seen.old.items x < slice_index (map (λ f. length f.told.items) finished.now) x }
-    ensures nobodys { runner_of (length finished.now) line.now ≡ None → (result ≡ Told.Refused Refusal.Worker) × (seen.new.items ≡ seen.old.items) }
-    ensures own { TakesNext (length finished.now) line.now (map (λ f. f.told.items) finished.now) seen.old.items seen.new.items result }
+// The result of the line, where so many results of each thread were seen before.
+fn next_told<S: Drop>(
+    names: &[u64],
+    finished: &[Finished<S>],
+    seen: &mut Vec<usize>,
+    line: &Line,
+) -> Told
+    requires some { 0 < length names.now }
+    requires each { length finished.now ≡ length names.now }
+    requires places { length seen.old.items ≡ length names.now }
+    requires more { (k : ℕ) → runner_of names.now line.now ≡ Some k → slice_index seen.old.items k < slice_index (map (λ f. length f.told.items) finished.now) k }
+    ensures nobodys { runner_of names.now line.now ≡ None → (result ≡ Told.Refused Refusal.Worker) × (seen.new.items ≡ seen.old.items) }
+    ensures own { TakesNext names.now line.now (map (λ f. f.told.items) finished.now) seen.old.items seen.new.items result }
 {
-    let Some(worker) = runner(finished.len() as u64, line) else {
+    let Some(thread) = runner(names, line) else {
         return Told::Refused(Refusal::Worker);
     };
-    let worker = worker as usize;
-    let at = seen[worker];
-    let told = finished[worker].told[at];
-    seen[worker] = at + 1;
+    let thread = thread as usize;
+    let at = seen[thread];
+    let told = finished[thread].told[at];
+    seen[thread] = at + 1;
     told
 }
 

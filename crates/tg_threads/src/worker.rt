@@ -47,7 +47,7 @@ pub(crate) fn run_tasks<L: Round, P: Payload, G: Turnstile, R: Threads + Wait + 
     tasks: Vec<Task<P>>,
 ) -> Result<Finished<L>, ThreadsFault>
     requires fresh { HadNone session }
-    ensures ran { RunsTasks L.start context.now.helpers L.start.opening.plan.workers session.worker (map boxed_of tasks.items) result }
+    ensures ran { RunsTasks L.start context.now.helpers session.worker (map boxed_of tasks.items) result }
 {
     let (told, spawned) = room_for(context.host.alloc, tasks.as_slice())?;
     let mut finished = crate::work::Finished {
@@ -87,7 +87,7 @@ fn run_each<L: Round, P: Payload, G: Turnstile, R: Threads + Wait + Sync>(
     requires fresh { HadNone finished.old.session }
     requires none { (finished.old.told.items ≡ []) × (finished.old.spawned.items ≡ []) }
     requires room { count_by may_make_subject tasks.items ≤ vec_capacity finished.old.spawned }
-    ensures ran { OnOk result (Brings (arena_seen L.start context.now.helpers finished.new) L.start.opening.plan.workers finished.old.session.worker (map boxed_of tasks.items) finished.new) }
+    ensures ran { OnOk result (Brings (arena_seen L.start context.now.helpers finished.new) finished.old.session.worker (map boxed_of tasks.items) finished.new) }
     ensures fault { IfErr result (λ fault. fault ≢ ThreadsFault.NoThread) }
 {
     let mut served = true;

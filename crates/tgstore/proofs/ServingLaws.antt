@@ -10,7 +10,7 @@ use Rattle.tg_script.specs.Script.{MayStart, start_with}
 use Rattle.tg_script.specs.Entering.{RanAs}
 use Rattle.tg_script.specs.Lines.{read_failures}
 use Rattle.tg_threads.specs.declared.fault.RaceFault.{RaceFault}
-use Rattle.tg_threads.specs.Race.{HasRaced, race_read_failures, race_write_failures}
+use Rattle.tg_threads.specs.Race.{HasRaced, race_from, race_read_failures, race_write_failures}
 use Rattle.tgstore.specs.Boxes.{value_of_item}
 use Rattle.tgstore.specs.declared.start.Start.{Start}
 use Rattle.tgstore.specs.declared.start.StartFault.TheVariants.{OutOfMemory}
@@ -30,10 +30,10 @@ ran_from start values stock bytes before r left after workers boxes ran =
     let Q : List Value → Type 0 = λ x. RanAs start.entries (start_with start.settings (replicate start.settings.workers (value_of_item Cell)) x) bytes before r left after in
     subst Q boxes (subst P workers ran)
 
-pub raced_from : {T : Type 0} (start : Start) (values stock : List Value) (bytes before : List ℕ) (r : Result T RaceFault) (left : List ℕ) (after : Option (List ℕ)) → values ≡ replicate start.settings.workers (value_of_item Cell) → stock ≡ map value_of_item start.stock.items → HasRaced (race_text_as start.entries) (start_with start.settings values stock) bytes before r left after → HasRaced (race_text_as start.entries) (script_start_of start) bytes before r left after
+pub raced_from : {T : Type 0} (start : Start) (values stock : List Value) (bytes before : List ℕ) (r : Result T RaceFault) (left : List ℕ) (after : Option (List ℕ)) → values ≡ replicate start.settings.workers (value_of_item Cell) → stock ≡ map value_of_item start.stock.items → HasRaced (race_from (race_text_as start.entries) (start_with start.settings values stock)) bytes before r left after → HasRaced (race_from (race_text_as start.entries) (script_start_of start)) bytes before r left after
 raced_from start values stock bytes before r left after workers boxes raced =
-    let P : List Value → Type 0 = λ x. HasRaced (race_text_as start.entries) (start_with start.settings x stock) bytes before r left after in
-    let Q : List Value → Type 0 = λ x. HasRaced (race_text_as start.entries) (start_with start.settings (replicate start.settings.workers (value_of_item Cell)) x) bytes before r left after in
+    let P : List Value → Type 0 = λ x. HasRaced (race_from (race_text_as start.entries) (start_with start.settings x stock)) bytes before r left after in
+    let Q : List Value → Type 0 = λ x. HasRaced (race_from (race_text_as start.entries) (start_with start.settings (replicate start.settings.workers (value_of_item Cell)) x)) bytes before r left after in
     subst Q boxes (subst P workers raced)
 
 -- where a fault is reported as a stop, each other end stands
@@ -63,11 +63,11 @@ unfailed_at told (Err fault) P is = tt
 pub unfailed_told : {F : Type 0} (told : F → Stop) (outcome : Result (Unit {0}) F) (result : Result (Unit {0}) Stop) (P : Type 0) → told_as told outcome ≡ result → OnOk outcome P → OnOk result P
 unfailed_told told outcome result P is had = subst (λ (x : Result (Unit {0}) Stop). OnOk x P) is (unfailed_at told outcome P had)
 
-served_race_at : (start : Start) (bytes before : List ℕ) (outcome : Result (Unit {0}) RaceFault) (left : List ℕ) (after : Option (List ℕ)) → start.race ≡ true → HasRaced (race_text_as start.entries) (script_start_of start) bytes before outcome left after → Served start bytes before (told_as stop.Race outcome) left after
+served_race_at : (start : Start) (bytes before : List ℕ) (outcome : Result (Unit {0}) RaceFault) (left : List ℕ) (after : Option (List ℕ)) → start.race ≡ true → HasRaced (race_from (race_text_as start.entries) (script_start_of start)) bytes before outcome left after → Served start bytes before (told_as stop.Race outcome) left after
 served_race_at start bytes before (Ok done) left after race raced = inr (race, raced)
 served_race_at start bytes before (Err fault) left after race raced = (race, raced)
 
-pub served_race : (start : Start) (bytes before : List ℕ) (outcome : Result (Unit {0}) RaceFault) (result : Result (Unit {0}) Stop) (left : List ℕ) (after : Option (List ℕ)) → told_as stop.Race outcome ≡ result → start.race ≡ true → HasRaced (race_text_as start.entries) (script_start_of start) bytes before outcome left after → Served start bytes before result left after
+pub served_race : (start : Start) (bytes before : List ℕ) (outcome : Result (Unit {0}) RaceFault) (result : Result (Unit {0}) Stop) (left : List ℕ) (after : Option (List ℕ)) → told_as stop.Race outcome ≡ result → start.race ≡ true → HasRaced (race_from (race_text_as start.entries) (script_start_of start)) bytes before outcome left after → Served start bytes before result left after
 served_race start bytes before outcome result left after is race raced = subst (λ (x : Result (Unit {0}) Stop). Served start bytes before x left after) is (served_race_at start bytes before outcome left after race raced)
 
 served_run_at : (start : Start) (bytes before : List ℕ) (outcome : Result (Unit {0}) ScriptFault) (left : List ℕ) (after : Option (List ℕ)) → start.race ≡ false → RanAs start.entries (script_start_of start) bytes before outcome left after → Served start bytes before (told_as stop.Script outcome) left after

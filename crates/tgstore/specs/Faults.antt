@@ -33,12 +33,12 @@ status_of_stop stop.HelpUnwritten = 1
 status_of_stop (stop.Start start.BadStock) = 2
 status_of_stop (stop.Start start.BadLimits) = 2
 status_of_stop (stop.Start start.StrictRace) = 2
-status_of_stop (stop.Start start.ResumedRace) = 2
 status_of_stop (stop.Start start.OutOfMemory) = 1
 status_of_stop (stop.Resume (resume.OtherWorkers asked has)) = 2
 status_of_stop (stop.Resume (resume.OtherVertices asked has)) = 2
 status_of_stop (stop.Resume (resume.Text fault)) = 1
 status_of_stop (stop.Resume (resume.Store fault)) = 1
+status_of_stop (stop.Resume resume.NobodyActs) = 2
 status_of_stop (stop.Script fault) = 1
 status_of_stop (stop.Race fault) = 1
 

@@ -3,8 +3,8 @@ use Rattle.std.specs.Prelude.{◌≡◌, ◌⊎◌, ℕ, Bool, true, false, List
 use Rattle.tg_text.specs.declared.stock.StockItem.TheVariants.{Cell}
 use Rattle.tg_script.specs.Script.{Start as ScriptStart, start_with}
 use Rattle.tg_script.specs.Entering.{RanAs}
-use Rattle.tg_threads.specs.Output.{RaceText, entry_race, reply_race}
-use Rattle.tg_threads.specs.Race.{HasRaced}
+use Rattle.tg_threads.specs.Output.{RaceText, RaceTextOn, entry_race, entry_race_on, reply_race, reply_race_on}
+use Rattle.tg_threads.specs.Race.{HasRaced, race_from}
 use Rattle.tgstore.specs.Boxes.{value_of_item}
 use Rattle.tgstore.specs.Faults.{status_of_stop}
 use Rattle.tgstore.specs.declared.start.Start.{Start}
@@ -21,13 +21,18 @@ abbrev pub race_text_as : Bool → RaceText
 race_text_as false = reply_race
 race_text_as true = entry_race
 
+-- the text that is written of a race from a history on
+abbrev pub race_text_on_as : Bool → RaceTextOn
+race_text_on_as false = reply_race_on
+race_text_on_as true = entry_race_on
+
 -- The script of these bytes was run, line by line or as a race, and replies or entries were written, as the start says. These bytes
 -- are left, and these are in the writer. Or there was no memory for drafts, and nothing was read or written.
 abbrev pub Served : {T : Type 0} → Start → List ℕ → List ℕ → Result T Stop → List ℕ → Option (List ℕ) → Type 0
 Served {T} start bytes before (Ok done) left after =
-    ((start.race ≡ false) × RanAs start.entries (script_start_of start) bytes before (Ok done) left after) ⊎ ((start.race ≡ true) × HasRaced (race_text_as start.entries) (script_start_of start) bytes before (Ok done) left after)
+    ((start.race ≡ false) × RanAs start.entries (script_start_of start) bytes before (Ok done) left after) ⊎ ((start.race ≡ true) × HasRaced (race_from (race_text_as start.entries) (script_start_of start)) bytes before (Ok done) left after)
 Served {T} start bytes before (Err (stop.Script fault)) left after = (start.race ≡ false) × RanAs {T = T} start.entries (script_start_of start) bytes before (Err fault) left after
-Served {T} start bytes before (Err (stop.Race fault)) left after = (start.race ≡ true) × HasRaced {T = T} (race_text_as start.entries) (script_start_of start) bytes before (Err fault) left after
+Served {T} start bytes before (Err (stop.Race fault)) left after = (start.race ≡ true) × HasRaced {T = T} (race_from (race_text_as start.entries) (script_start_of start)) bytes before (Err fault) left after
 Served {T} start bytes before (Err (stop.Start OutOfMemory)) left after = (left ≡ bytes) × (after ≡ Some before)
 Served {T} start bytes before (Err why) left after = ⊥
 

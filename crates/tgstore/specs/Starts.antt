@@ -9,7 +9,7 @@ use Rattle.tg_script.specs.declared.run_script.Settings.{Settings}
 use Rattle.tgstore.specs.Boxes.{value_of_item}
 use Rattle.tgstore.specs.declared.start.Start.{Start}
 use Rattle.tgstore.specs.declared.start.StartFault.{StartFault}
-use Rattle.tgstore.specs.declared.start.StartFault.TheVariants.{BadStock, BadLimits, StrictRace, ResumedRace, OutOfMemory}
+use Rattle.tgstore.specs.declared.start.StartFault.TheVariants.{BadStock, BadLimits, StrictRace, OutOfMemory}
 use Rattle.tgstore.specs.declared.settings.Options.{Options}
 
 -- no stock has this text
@@ -25,15 +25,13 @@ abbrev pub IsStartFault : Options → StartFault → Type 0
 IsStartFault o BadStock = IsBadStock o.stock.now
 IsStartFault o BadLimits = (items : List StockItem) × IsStockText o.stock.now items × (o.settings.max_vertices < o.settings.workers)
 IsStartFault o StrictRace = (items : List StockItem) × IsStockText o.stock.now items × MayHoldWorkers o.settings × (o.race ≡ true) × (o.strict ≡ true)
-IsStartFault o ResumedRace = ⊥
 IsStartFault o OutOfMemory = (items : List StockItem) × IsStockText o.stock.now items
 
 -- The fault of a run that goes on from a history is the first of two that holds. Memory runs out only if the text writes a stock.
 abbrev pub IsResumeFault : Options → StartFault → Type 0
 IsResumeFault o BadStock = IsBadStock o.stock.now
 IsResumeFault o BadLimits = ⊥
-IsResumeFault o StrictRace = ⊥
-IsResumeFault o ResumedRace = (items : List StockItem) × IsStockText o.stock.now items × (o.race ≡ true)
+IsResumeFault o StrictRace = (items : List StockItem) × IsStockText o.stock.now items × (o.race ≡ true) × (o.strict ≡ true)
 IsResumeFault o OutOfMemory = (items : List StockItem) × IsStockText o.stock.now items
 
 -- what a run asks of where it starts: the number of workers is in its range

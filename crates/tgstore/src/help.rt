@@ -35,9 +35,9 @@ these boxes, of at most 100000 in all [default: no box]";
 
 pub const RACE: &str =
     "Runs the lines of each worker on a thread of its own. Collections are lines of
-worker 0, and use the threads of --helpers. Lines of different workers may run
-in any order. The replies are written after all threads have ended, in the
-order of the script. After them comes 'entries N audit ok' [default: one
+the first worker, and use the threads of --helpers. Lines of different workers
+may run in any order. The replies are written after all threads have ended, in
+the order of the script. After them comes 'entries N audit ok' [default: one
 thread runs all lines]";
 
 pub const ENTRIES: &str =
@@ -60,8 +60,8 @@ pub const RESUME: &str =
 who the workers are, what they store, and how many vertices may ever be made.
 If --workers or --vertices is given, its number has to be that of FILE. An
 edge line is a bad line. --stock names the boxes that are left. The output
-with --entries goes on with the text of FILE. --race can't be given with it
-[default: a new store]";
+with --entries goes on with the text of FILE. With --race the workers are the
+active subjects at the end of FILE [default: a new store]";
 
 pub const MANUAL: &str = "Script:
   A script has one command a line, and at most 1048576 bytes. A line has at most 256 bytes, and one space between words.
@@ -111,11 +111,13 @@ Replies:
 Going on:
   With --resume FILE the script goes on from a history. FILE has its text, whose form tgaudit --help shows. It begins with
   an opening, or with the head of a part. The active subjects at its end are the workers. With --entries the output has
-  the entries of the script, and the number of all entries of the text. If FILE can't be taken, no script is read.
+  the entries of the script, and the number of all entries of the text. With --race 'entries N audit ok' has the number of
+  all entries of the text too. If FILE can't be taken, no script is read.
 
   --resume: line L: ..         line L of FILE isn't as asked. 'tgaudit < FILE' says what it has to be
   --resume: no room ..         --blocks has fewer blocks than the history needs, or memory ran out
   --resume: the snapshot ..    the head of the part has no line 'worker N', so nobody can act
+  --race: nobody is active ..  no subject is active at the end of FILE, so no thread runs a line
   --workers N differs ..       FILE names another number of workers at its head
   --vertices N differs ..      FILE has another limit of vertices
 

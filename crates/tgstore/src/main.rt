@@ -7,7 +7,7 @@
 //! is one line on standard error and a status (`stop`). `obey` does all of it.
 //!
 //! A run with `--resume` goes on from the history of a file. `resuming` reads the file and makes the store, and
-//! `streams_on` runs the script on it.
+//! `streams_on` runs the script on it. `onward` runs it as a race.
 //!
 //! The definitions to believe are in `specs/`. `Words` says what the words ask for. `Ranges` and `Starts` say what is
 //! refused before any input is read. `Boxes` says what boxes begin with, and `Serving` says what a run reads and
@@ -20,6 +20,7 @@ mod help;
 mod host;
 mod noted;
 mod on_threads;
+mod onward;
 mod program;
 mod resuming;
 mod serving;

@@ -1,10 +1,12 @@
 //! All that the program does, from the words of the command line to its exit status.
-ghost use Rattle.std.specs.Prelude.{◌≡◌, ◌≤◌, IfOk, length};
+ghost use Rattle.std.specs.Prelude.{◌≡◌, IfOk};
 ghost use Rattle.tgstore.specs.Faults.{exit_status};
 ghost use Rattle.tgstore.specs.Ranges.{AreInRange};
+ghost use Rattle.tgstore.specs.Resumed.{MayGoOnward};
 
 use crate::host::RunHost;
 use crate::on_threads::OnThreads;
+use crate::onward::Onward;
 use crate::resuming::{HistoryFault, go_on_from};
 use crate::settings::Options;
 use crate::start::{ResumedStart, StartFault, prepare, prepare_resumed};
@@ -23,7 +25,6 @@ use std::thread::Threads;
 use std::{env, fs, io};
 use tg_entries::TextFault;
 use tg_payload::LawPayload;
-use tg_script::RunOn;
 
 /// Does what the words of the command line ask for. It runs the reader's script and writes the replies to the writer,
 /// or prints the help. A fault is one line on standard error. A second line says why a line is bad, if this is asked
@@ -176,8 +177,8 @@ fn run_of<R: AllocGlobal + Files>(
     rt: &R,
     start: &ResumedStart,
     path: &str,
-) -> Result<RunOn<LawPayload>, Stop>
-    ensures place { IfOk result (λ from. from.skipped ≤ length from.store.entries) }
+) -> Result<Onward<LawPayload>, Stop>
+    ensures onward { IfOk result MayGoOnward }
 {
     match fs::open(rt, path) {
         Ok(file) => go_on_from(rt.alloc(), file, start),
@@ -191,13 +192,13 @@ fn serve_from<R, I, O>(
     reader: I,
     writer: O,
     start: &ResumedStart,
-    from: RunOn<LawPayload>,
+    from: Onward<LawPayload>,
 ) -> Result<u8, Failure>
 where
     R: AllocGlobal + Eprint + Threads + Wait + Sync,
     I: Read + Drop,
     O: Write + Drop,
-    requires place { from.skipped ≤ length from.store.entries }
+    requires onward { MayGoOnward from }
 {
     let alloc = rt.alloc();
     let collector = OnThreads::new(rt, alloc);

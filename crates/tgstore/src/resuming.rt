@@ -1,10 +1,12 @@
 //! How a run goes on from the history of a file.
-ghost use Rattle.std.specs.Prelude.{◌≡◌, ◌≢◌, ◌≤◌, IfErr, IfOk, IfSome, MatchOption, OnOk, Some, length};
+ghost use Rattle.std.specs.Prelude.{◌≡◌, ◌≢◌, IfErr, IfOk, IfSome, MatchOption, OnOk, Some};
 ghost use Rattle.tg_entries.specs.Kept.{IsTextOf};
 ghost use Rattle.tg_revive.specs.Reviving.{entries_made_before};
-ghost use Rattle.tgstore.specs.Resumed.{IsAsked, IsOther, IsResumed, IsRunAfter, MeetsAsked, limit_of, workers_of};
+ghost use Rattle.tg_threads.specs.Race.{MayRaceOn};
+ghost use Rattle.tgstore.specs.Resumed.{IsAsked, IsOnwardAfter, IsOther, IsResumed, IsRunAfter, MayGoOnward, MeetsAsked, limit_of, workers_of};
 
 use crate::boxes::new_drafts;
+use crate::onward::{Onward, auditor_of, race_after};
 use crate::settings::Asked;
 use crate::start::ResumedStart;
 use crate::stop::Stop;
@@ -15,6 +17,7 @@ use tg_entries::{History, HistoryStart, TextFault, read_history};
 use tg_payload::LawPayload;
 use tg_revive::{ByLaw, ReviveFault, store_after};
 use tg_script::RunOn;
+use tg_threads::RaceOn;
 use thiserror::Error;
 
 /// Why a run doesn't go on from a history. Nothing of the script was read.
@@ -32,20 +35,23 @@ pub enum HistoryFault {
     /// No store goes on from the history.
     #[error("--resume: {0}")]
     Store(ReviveFault),
+    /// A race was to go on from the history, and nobody acts at its end.
+    #[error("--race: nobody is active at the end of the history, so no thread runs a line: leave --race out")]
+    NobodyActs,
 }
 
-/// Makes the store and the boxes from which a run goes on. The store is the store after the history whose text is in
-/// the file, and the boxes are new boxes of the stock. The history has to be as the words ask.
+/// Makes the store and the boxes from which a run goes on, and the auditor of a race. The store is the store after the
+/// history whose text is in the file, and the boxes are new boxes of the stock. The history has to be as the words ask.
 pub(crate) fn go_on_from<F: Read + Drop>(
     alloc: Global,
     file: F,
     start: &ResumedStart,
-) -> Result<RunOn<LawPayload>, Stop>
+) -> Result<Onward<LawPayload>, Stop>
     ensures resumed { IfOk result (λ from. IfSome (F.remaining file) (λ text. IsResumed text start.now from)) }
-    ensures place { IfOk result (λ from. from.skipped ≤ length from.store.entries) }
+    ensures ready { IfOk result MayGoOnward }
 {
     match history_of(alloc, file, start.asked) {
-        Ok(history) => run_after(alloc, history, start),
+        Ok(history) => onward_after(alloc, history, start),
         Err(fault) => Err(Stop::Resume(fault)),
     }
 }
@@ -126,6 +132,46 @@ fn entries_made_before(begin: &HistoryStart) -> u64
     match begin {
         HistoryStart::Opened(_) => 0,
         HistoryStart::Shown(snapshot) => snapshot.entries(),
+    }
+}
+
+// What a run or a race goes on from after this history.
+fn onward_after(
+    alloc: Global,
+    history: History,
+    start: &ResumedStart,
+) -> Result<Onward<LawPayload>, Stop>
+    ensures after { IfOk result (IsOnwardAfter history start.now) }
+    ensures ready { IfOk result MayGoOnward }
+{
+    if start.race {
+        return match race_of(alloc, history, start) {
+            Ok(on) => Ok(Onward::Race(on)),
+            Err(stop) => Err(stop),
+        };
+    }
+    match run_after(alloc, history, start) {
+        Ok(from) => Ok(Onward::Lines(from)),
+        Err(stop) => Err(stop),
+    }
+}
+
+// What a race goes on from after this history. Its auditor is at the head of the history.
+fn race_of(
+    alloc: Global,
+    history: History,
+    start: &ResumedStart,
+) -> Result<RaceOn<LawPayload>, Stop>
+    ensures after { IfOk result (λ on. IsRunAfter history start.now on.from) }
+    ensures ready { IfOk result MayRaceOn }
+{
+    let auditor = auditor_of(alloc, &history.start)?;
+    match run_after(alloc, history, start) {
+        Ok(from) => race_after(from, auditor),
+        Err(stop) => {
+            drop(auditor);
+            Err(stop)
+        }
     }
 }
 

@@ -1,7 +1,7 @@
 //! A run with payloads, from a source to a sink.
 ghost use Rattle.std.specs.Prelude.{◌≡◌, ◌+◌, ◌<◌, ◌≤◌, true, OnOk, map};
 ghost use Rattle.tg_script.specs.Script.{MayStart, start_of_setup};
-ghost use Rattle.tg_threads.specs.Race.{FinishesRace, RacesFrom};
+ghost use Rattle.tg_threads.specs.Race.{FinishesRace, RacesFrom, race_from};
 ghost use Rattle.tgstore.specs.Faults.{stop_read_failures, stop_write_failures};
 ghost use Rattle.tgstore.specs.Serving.{ServesFrom, WasBegun, race_text_as};
 ghost use Rattle.tgstore.specs.Starts.{HasPayloads, MayServe};
@@ -89,7 +89,7 @@ fn race<P: Payload + Send, R: Threads + Wait + Sync, C, S: Source, K: Sink>(
 ) -> Result<(), RaceFault>
     requires startable { MayStart setup.settings setup.workers.items }
     ensures raced { RacesFrom S.left S.asked S.failures K.taken source.old source.new sink.old sink.new
-        (race_text_as entries) (start_of_setup setup) result }
+        (race_from (race_text_as entries) (start_of_setup setup)) result }
     ensures finish { FinishesRace K.failures K.finished sink.old sink.new result }
 {
     let RunHost { rt, alloc, .. } = *host;

@@ -37,8 +37,10 @@ pub struct ResumedStart {
     pub entries: bool,
     /// Whether it is said why a line is bad.
     pub why: bool,
-    /// Whether a line that is denied or refused fails the run.
+    /// Whether a line that is denied or refused fails the run. A race isn't strict.
     pub strict: bool,
+    /// Whether each worker's lines are run on a thread of their own.
+    pub race: bool,
     /// The kinds of the boxes that are left to make, in order.
     pub stock: Vec<StockItem>,
 }
@@ -56,9 +58,6 @@ pub enum StartFault {
     /// A race was to be strict.
     #[error("--strict doesn't see the lines of a race: give --strict or --race, and not both")]
     StrictRace,
-    /// A race was to go on from a history.
-    #[error("--race can't go on from a history: give --race or --resume, and not both")]
-    ResumedRace,
     /// There was no memory for the boxes.
     #[error("out of memory")]
     OutOfMemory,
@@ -122,7 +121,7 @@ pub fn prepare(alloc: Global, options: &Options) -> Result<Start, StartFault>
 }
 
 /// The start for which the options ask, if the run goes on from a history. It is refused with `BadStock`, then
-/// `ResumedRace`, exactly if they hold, or with `OutOfMemory`. A bad stock is found whatever memory there is.
+/// `StrictRace`, exactly if they hold, or with `OutOfMemory`. A bad stock is found whatever memory there is.
 pub fn prepare_resumed(alloc: Global, options: &Options) -> Result<ResumedStart, StartFault>
     ensures numbers { IfOk result (λ start. (start.helpers ≡ options.now.settings.helpers) × (start.limits ≡ options.now.settings.limits)) }
     ensures asked { IfOk result (λ start. start.asked ≡ options.now.asked) }
@@ -130,12 +129,13 @@ pub fn prepare_resumed(alloc: Global, options: &Options) -> Result<ResumedStart,
     ensures why { IfOk result (λ start. start.why ≡ options.now.why) }
     ensures strict { IfOk result (λ start. start.strict ≡ options.now.strict) }
     ensures stock { IfOk result (λ start. IsStockText options.now.stock.now start.stock.items) }
-    ensures no_race { OnOk result (options.now.race ≡ false) }
+    ensures race { IfOk result (λ start. start.race ≡ options.now.race) }
+    ensures no_race { IfOk result (λ start. start.race ≡ true → start.strict ≡ false) }
     ensures refused { IfErr result (IsResumeFault options.now) }
 {
     let stock = read_stock(alloc, options.stock.as_bytes())?;
-    if options.race {
-        return Err(StartFault::ResumedRace);
+    if options.race && options.strict {
+        return Err(StartFault::StrictRace);
     }
     let Settings {
         helpers,
@@ -149,6 +149,7 @@ pub fn prepare_resumed(alloc: Global, options: &Options) -> Result<ResumedStart,
         entries: options.entries,
         why: options.why,
         strict: options.strict,
+        race: options.race,
         stock,
     })
 }

@@ -80,14 +80,11 @@ impl Stop {
     {
         match self {
             Stop::BadWords
-            | Stop::Start(
-                StartFault::BadStock
-                | StartFault::BadLimits
-                | StartFault::StrictRace
-                | StartFault::ResumedRace,
-            )
+            | Stop::Start(StartFault::BadStock | StartFault::BadLimits | StartFault::StrictRace)
             | Stop::Resume(
-                HistoryFault::OtherWorkers { .. } | HistoryFault::OtherVertices { .. },
+                HistoryFault::OtherWorkers { .. }
+                | HistoryFault::OtherVertices { .. }
+                | HistoryFault::NobodyActs,
             ) => 2,
             Stop::HelpUnwritten
             | Stop::Start(StartFault::OutOfMemory)

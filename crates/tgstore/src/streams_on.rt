@@ -1,12 +1,13 @@
 //! A run that goes on from a history, between a reader and a writer.
-ghost use Rattle.std.specs.Prelude.{◌≡◌, ◌≤◌, false, IfErr, IfOk, length};
+ghost use Rattle.std.specs.Prelude.{◌≡◌, false, IfErr, IfOk};
 ghost use Rattle.std.specs.Io.Buffered.{reader_remaining, writer_contents};
 ghost use Rattle.tg_script.specs.Inner.Counting.{MayCountStreams};
 ghost use Rattle.tgstore.specs.Faults.{status_of_stop};
-ghost use Rattle.tgstore.specs.Resumed.{GoesOnBy, ServesOn};
+ghost use Rattle.tgstore.specs.Resumed.{GoesOnBy, MayGoOnward, ServesOn};
 
 use crate::host::RunHost;
 use crate::noted::Noted;
+use crate::onward::{Onward, race_onward};
 use crate::start::{ResumedStart, StartFault};
 use crate::stop::Stop;
 use crate::streams::{BLOCK, Ended, StreamBlanks};
@@ -18,9 +19,7 @@ use std::sync::ledger::{Blank, Ledger};
 use std::thread::Threads;
 use tg_model::MAX_WORKERS;
 use tg_payload::LawPayload;
-use tg_script::{
-    Collector, Count, OfRead, OfWrite, RunMeans, RunOn, Sink, Source, Watch, run_script_on,
-};
+use tg_script::{Collector, Count, OfRead, OfWrite, RunMeans, Sink, Source, Watch, run_script_on};
 
 /// Runs the reader's script from a history on, and writes the replies or the entries. Whatever was written is flushed
 /// before more is read than the reader holds, and at the end, after a fault too. If memory runs out for the two
@@ -35,10 +34,10 @@ pub(crate) fn serve_on<
     reader: R,
     writer: W,
     start: &ResumedStart,
-    from: RunOn<LawPayload>,
+    from: Onward<LawPayload>,
 ) -> Result<Ended<BufReader<R>, BufWriter<W>>, Stop>
     requires ready { C.Ready }
-    requires place { from.skipped ≤ length from.store.entries }
+    requires onward { MayGoOnward from }
     ensures status { IfErr result (λ stop. status_of_stop stop ≡ 1) }
     ensures served { IfOk result (λ ended.
         ServesOn start.now from (R.remaining reader) (reader_remaining R.remaining ended.reader) (W.contents writer) (writer_contents W.contents ended.writer) ended.outcome ended.status) }
@@ -85,10 +84,10 @@ fn serve_counted_on<
     blanks: StreamBlanks,
     streams: Streams<R, W>,
     start: &ResumedStart,
-    from: RunOn<LawPayload>,
+    from: Onward<LawPayload>,
 ) -> Ended<R, W>
     requires ready { C.Ready }
-    requires place { from.skipped ≤ length from.store.entries }
+    requires onward { MayGoOnward from }
     requires countable { MayCountStreams A.name A.parts B.name B.parts F.name F.parts blanks.asked blanks.read_failures blanks.write_failures }
     ensures served { ServesOn start.now from (R.remaining streams.reader) (R.remaining result.reader) (W.contents streams.writer) (W.contents result.writer) result.outcome result.status }
     ensures lax { start.now.strict ≡ false → result.status ≡ 0 }
@@ -125,17 +124,17 @@ fn serve_counted_on<
     }
 }
 
-// Runs the source's script from there on, and puts replies or entries into the sink.
-fn go_on<T, C: Collector, S: Source, K: Sink, W: Watch>(
+// Runs the source's script from there on, and puts replies or entries into the sink. The watch sees no line of a race.
+fn go_on<T: Threads + Wait + Sync, C: Collector, S: Source, K: Sink, W: Watch>(
     host: &RunHost<T, C>,
     source: &mut S,
     sink: &mut K,
     watch: &mut W,
     entries: bool,
-    from: RunOn<LawPayload>,
+    from: Onward<LawPayload>,
 ) -> Result<(), Stop>
     requires ready { C.Ready }
-    requires place { from.skipped ≤ length from.store.entries }
+    requires onward { MayGoOnward from }
     ensures { GoesOnBy entries from (S.left source.old) (S.left source.new) (K.taken sink.old) (K.taken sink.new) (W.refused watch.old) (W.refused watch.new) result }
 {
     let means = RunMeans {
@@ -143,5 +142,10 @@ fn go_on<T, C: Collector, S: Source, K: Sink, W: Watch>(
         collector: host.collector,
         entries,
     };
-    run_script_on(means, source, sink, watch, from).map_err(Stop::Script)
+    match from {
+        Onward::Lines(from) => {
+            run_script_on(means, source, sink, watch, from).map_err(Stop::Script)
+        }
+        Onward::Race(on) => race_onward(host, source, sink, entries, on).map_err(Stop::Race),
+    }
 }

@@ -1,4 +1,4 @@
-use Rattle.std.proofs.Common.{◌≡◌, [], Some, length, map, set, refl, sym, ap, ◌∙◌, subst, arith}
+use Rattle.std.proofs.Common.{◌≡◌, [], Some, map, set, refl, sym, ap, ◌∙◌, subst, arith}
 use Rattle.std.proofs.Math.Seq.{map-set_same}
 use Rattle.std.proofs.lemmas.List.{length-map}
 use Rattle.std.proofs.lemmas.List.Elements.{All-weaker}
@@ -14,46 +14,44 @@ loop-task-init g c =
     let NoLines : Work g.row.S.Denot g.row.P.Denot → Type 0 = λ w. lines_in w ≡ [] in
     record {
       left = c.into_iter-task-iterator.ensures.into_iter_gives.0;
-      dealt = dealt_none lines_in c.args.works.items (All-weaker None NoLines (λ w none. ap (map boxed_of) none) c.args.works.items c.requires.none);
+      dealt = dealt_none c.args.names.now lines_in c.args.works.items c.requires.each (All-weaker None NoLines (λ w none. ap (map boxed_of) none) c.args.works.items c.requires.none);
       sessions = refl;
     }
 
 pub index_mut-requires : goal.index_mut-requires
 index_mut-requires g c =
-    let n = length c.args.works.items in
-    let workers : c.len-workers.result ≡ n = c.len-workers.ensures ∙ c.args.works.ok.0 in
-    let by : runner_of n c.in-Some.task.line ≡ Some c.in-Some-runner.worker = ap (λ m. runner_of m c.in-Some.task.line) (sym workers) ∙ sym c.runner.ensures ∙ c.in-Some-runner.is in
-    let low = runner_below n c.in-Some-runner.worker c.in-Some.task.line c.requires.workers by in
+    let names = c.args.names.now in
+    let by : runner_of names c.in-Some.task.line ≡ Some c.in-Some-runner.thread = sym c.runner.ensures.thread ∙ c.in-Some-runner.is in
+    let low = runner_below names c.in-Some-runner.thread c.in-Some.task.line c.requires.some by in
     omega (arith, low, c.loop-task.invariant.dealt.long, length-map c.loop-task.works.items lines_in, c.loop-task.works.ok.0)
 
 pub loop-task-preserved-in-Continue-1 : goal.loop-task-preserved-in-Continue-1
 loop-task-preserved-in-Continue-1 g c =
-    let n = length c.args.works.items in
-    let y = c.in-Some-runner.worker in
+    let names = c.args.names.now in
+    let y = c.in-Some-runner.thread in
     let task = c.in-Some.task in
     let works = c.loop-task.works.items in
-    let workers : c.len-workers.result ≡ n = c.len-workers.ensures ∙ c.args.works.ok.0 in
-    let by : runner_of n task.line ≡ Some y = ap (λ m. runner_of m task.line) (sym workers) ∙ sym c.runner.ensures ∙ c.in-Some-runner.is in
-    let low = runner_below n y task.line c.requires.workers by in
+    let by : runner_of names task.line ≡ Some y = sym c.runner.ensures.thread ∙ c.in-Some-runner.is in
+    let low = runner_below names y task.line c.requires.some by in
     let w = c.index_mut.result.now in
     let after = c.give.new.work in
     let session_of : Work g.row.S.Denot g.row.P.Denot → g.row.S.Denot = λ v. v.session in
-    let step = dealt_step lines_in works n y (map boxed_of c.loop-task.yielded) (boxed_of task) w after low by c.loop-task.invariant.dealt c.index_mut.ensures.value c.in_ok-give-in-Some-runner.ensures.lines in
+    let step = dealt_step lines_in works names y (map boxed_of c.loop-task.yielded) (boxed_of task) w after low by c.loop-task.invariant.dealt c.index_mut.ensures.value c.in_ok-give-in-Some-runner.ensures.lines in
     record {
       left = one_more c.loop-task.yielded c.next.new.self.rest.items c.loop-task.task-iterator.rest.items c.args.tasks.items c.in-Some.task c.in-Some.ensures.steps.0 c.loop-task.invariant.left;
-      dealt = subst (λ bs. IsDealt n bs (map lines_in (set works y after))) (sym (map_push boxed_of c.loop-task.yielded task)) step;
+      dealt = subst (λ bs. IsDealt names bs (map lines_in (set works y after))) (sym (map_push boxed_of c.loop-task.yielded task)) step;
       sessions = map-set_same session_of works y after w (c.in_ok-give-in-Some-runner.ensures.session ∙ ap session_of c.index_mut.ensures.value) ∙ c.loop-task.invariant.sessions;
     }
 
 pub loop-task-preserved : goal.loop-task-preserved
 loop-task-preserved g c = record {
   left = one_more c.loop-task.yielded c.next.new.self.rest.items c.loop-task.task-iterator.rest.items c.args.tasks.items c.in-Some.task c.in-Some.ensures.steps.0 c.loop-task.invariant.left;
-  dealt = dealt_nobodys boxed_of (length c.args.works.items) c.len-workers.result c.loop-task.yielded c.in-Some.task (map lines_in c.loop-task.works.items) (c.len-workers.ensures ∙ c.args.works.ok.0)
-      (sym c.runner.ensures ∙ c.in-None-runner.is) c.loop-task.invariant.dealt;
+  dealt = dealt_nobodys boxed_of c.args.names.now c.loop-task.yielded c.in-Some.task (map lines_in c.loop-task.works.items)
+      (sym c.runner.ensures.thread ∙ c.in-None-runner.is) c.loop-task.invariant.dealt;
   sessions = c.loop-task.invariant.sessions;
 }
 
 pub returns-clause-lines : goal.returns-clause-lines
 returns-clause-lines g c =
     let all : c.loop-task.yielded ≡ c.args.tasks.items = all_came c.loop-task.yielded c.loop-task.task-iterator.rest.items c.args.tasks.items c.loop-task.invariant.left (sym c.loop-task.task-iterator.rest.ok.0 ∙ c.in-None.ensures.steps.0) in
-    dealt_all (length c.args.works.items) (map boxed_of c.loop-task.yielded) (map lines_in c.loop-task.works.items) c.loop-task.invariant.dealt ∙ ap (λ ts. all_shares (length c.args.works.items) (map boxed_of ts)) all
+    dealt_all c.args.names.now (map boxed_of c.loop-task.yielded) (map lines_in c.loop-task.works.items) c.loop-task.invariant.dealt ∙ ap (λ ts. all_shares c.args.names.now (map boxed_of ts)) all

@@ -1,14 +1,13 @@
-use Rattle.std.proofs.Common.{◌≡◌, ◌<◌, ℕ, List, length, map, sym, subst}
+use Rattle.std.proofs.Common.{◌≡◌, ◌∙◌, List, map, subst}
 use Rattle.std.specs.Prelude.{IfOk}
-use Rattle.tg_threads.specs.Boxes.{Boxed, boxed}
+use Rattle.tg_threads.specs.Boxes.{Boxed}
 use Rattle.tg_threads.specs.Shares.{all_shares, lines_in}
 use Rattle.tg_threads.specs.declared.work.Work.{Work}
 use Rattle.tg_threads.proofs.ShareLaws.{as_many}
 use Rattle.tg_threads.proofs.sharing.share_out.Goals as goal
 
-pub deal-requires-clause-workers : goal.deal-requires-clause-workers
-deal-requires-clause-workers g c =
-    subst (λ (n : ℕ). 0 < n) (sym (as_many _ c.in_ok-works.works.items c.args.sessions.items c.in_ok-works.ensures.sessions)) c.requires
+pub deal-requires-clause-each : goal.deal-requires-clause-each
+deal-requires-clause-each g c = as_many _ c.in_ok-works.works.items c.args.sessions.items c.in_ok-works.ensures.sessions ∙ c.requires.each
 
 pub returns-clause-sessions : goal.returns-clause-sessions
 returns-clause-sessions g c =
@@ -17,6 +16,4 @@ returns-clause-sessions g c =
 
 pub returns-clause-lines : goal.returns-clause-lines
 returns-clause-lines g c =
-    let whole : List Boxed = boxed c.args.stock.items c.args.lines.now in
-    subst (λ (n : ℕ). IfOk c.deal.result (λ works. map lines_in works.items ≡ all_shares n whole)) (as_many _ c.in_ok-works.works.items c.args.sessions.items c.in_ok-works.ensures.sessions)
-    (subst (λ (bs : List Boxed). IfOk c.deal.result (λ works. map lines_in works.items ≡ all_shares (length c.in_ok-works.works.items) bs)) c.in_ok-tasks.ensures c.deal.ensures.lines)
+    subst (λ (bs : List Boxed). IfOk c.deal.result (λ works. map lines_in works.items ≡ all_shares c.args.names.now bs)) c.in_ok-tasks.ensures c.deal.ensures.lines

@@ -21,14 +21,14 @@ loop-handle-preserved g c =
       left = left;
       brings = λ helpers same.
           let here = all_next (λ h. h.promise.helpers ≡ helpers) c.loop-handle.yielded c.in-Some.handle c.next.new.self.rest.items c.args.handles.items left same in
-          let one = subst (λ n. Brings (arena_seen g.L.Round.start n c.in_ok-join.field-0) g.L.Round.start.opening.plan.workers (promised_by c.in-Some.handle).0 (promised_by c.in-Some.handle).1 c.in_ok-join.field-0) here c.in_ok-join.ensures.1 in
-          let more = brings_more g.L.Round.start helpers g.L.Round.start.opening.plan.workers (map promised_by c.loop-handle.yielded) c.loop-handle.all.items (promised_by c.in-Some.handle) c.in_ok-join.field-0 (c.loop-handle.invariant.brings helpers same) one in
-          let P : List (ℕ × List Boxed) → Type 0 = λ given. AllBring g.L.Round.start helpers g.L.Round.start.opening.plan.workers given (c.loop-handle.all.items ++ c.in_ok-join.field-0 ∷ []) in
-          let Q : List (Finished SessionState) → Type 0 = λ all. AllBring g.L.Round.start helpers g.L.Round.start.opening.plan.workers (map promised_by (c.loop-handle.yielded ++ c.in-Some.handle ∷ [])) all in
+          let one = subst (λ n. Brings (arena_seen g.L.Round.start n c.in_ok-join.field-0) (promised_by c.in-Some.handle).0 (promised_by c.in-Some.handle).1 c.in_ok-join.field-0) here c.in_ok-join.ensures.1 in
+          let more = brings_more g.L.Round.start helpers (map promised_by c.loop-handle.yielded) c.loop-handle.all.items (promised_by c.in-Some.handle) c.in_ok-join.field-0 (c.loop-handle.invariant.brings helpers same) one in
+          let P : List (ℕ × List Boxed) → Type 0 = λ given. AllBring g.L.Round.start helpers given (c.loop-handle.all.items ++ c.in_ok-join.field-0 ∷ []) in
+          let Q : List (Finished SessionState) → Type 0 = λ all. AllBring g.L.Round.start helpers (map promised_by (c.loop-handle.yielded ++ c.in-Some.handle ∷ [])) all in
           subst Q (sym c.in_ok-push.ensures.items) (subst P (sym (map_push promised_by c.loop-handle.yielded c.in-Some.handle)) more);
     }
 
 pub returns-clause-brought : goal.returns-clause-brought
 returns-clause-brought g c =
     let all : c.loop-handle.yielded ≡ c.args.handles.items = all_came c.loop-handle.yielded c.loop-handle.handle-iterator.rest.items c.args.handles.items c.loop-handle.invariant.left (sym c.loop-handle.handle-iterator.rest.ok.0 ∙ c.in-None.ensures.steps.0) in
-    λ helpers same. subst (λ hs. AllBring g.L.Round.start helpers g.L.Round.start.opening.plan.workers (map promised_by hs) c.loop-handle.all.items) all (c.loop-handle.invariant.brings helpers same)
+    λ helpers same. subst (λ hs. AllBring g.L.Round.start helpers (map promised_by hs) c.loop-handle.all.items) all (c.loop-handle.invariant.brings helpers same)

@@ -6,7 +6,7 @@ use Rattle.tg_threads.proofs.threads.start.Goals as goal
 
 pub spawn_with-requires-clause-keeps : goal.spawn_with-requires-clause-keeps
 spawn_with-requires-clause-keeps g c = λ κs lives r kept.
-    (kept.fault, brings_as g.L.Round.start c.args.context.now.helpers g.L.Round.start.opening.plan.workers c.worker.result c.args.work.session.worker c.of.result.value.items c.args.work.tasks.items r c.worker.ensures (ap (λ v. v.items) c.of.ensures) kept.brought)
+    (kept.fault, brings_as g.L.Round.start c.args.context.now.helpers c.worker.result c.args.work.session.worker c.of.result.value.items c.args.work.tasks.items r c.worker.ensures (ap (λ v. v.items) c.of.ensures) kept.brought)
 
 pub returns-clause-promise : goal.returns-clause-promise
 returns-clause-promise g c =

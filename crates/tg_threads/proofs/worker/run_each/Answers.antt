@@ -3,14 +3,12 @@ use Rattle.std.specs.List.{count_by}
 use Rattle.std.specs.Vec.{vec_capacity, vec_len}
 use Rattle.std.specs.declared.vec.Vec.{Vec}
 use Rattle.tg_shared.specs.Sessions.{SessionState}
-use Rattle.std.proofs.lemmas.Bool.{lt-ltb}
 use Rattle.std.proofs.lemmas.List.Sums.{sum_by-cons}
 use Rattle.tg_threads.specs.Boxes.{Boxed, boxed_of}
 use Rattle.tg_threads.proofs.ShareLaws.{all_came, map_push, one_more}
-use Rattle.tg_threads.specs.Tasks.{IsRunBy, Runs, may_make_subject, served_past}
+use Rattle.tg_threads.specs.Tasks.{IsRunFor, Runs, may_make_subject, served_past}
 use Rattle.tg_threads.specs.declared.task.Task.{Task}
 use Rattle.tg_threads.specs.declared.task.Told.{Told}
-use Rattle.tg_threads.specs.Output.{has_thread}
 use Rattle.tg_threads.proofs.RunLaws.{HasRunSo, arena_now, mapped_at, none_spawned, run_more}
 use Rattle.tg_threads.proofs.worker.run_each.Goals as goal
 
@@ -43,11 +41,11 @@ loop-task-init g c = record {
   left = c.into_iter-task-iterator.ensures.into_iter_gives.0;
   spawned = none_spawned c.args.finished.now.session.receipts c.args.finished.now.spawned.items c.requires.fresh.0 c.requires.none.1;
   room = room_first c.args.finished.now.spawned c.args.tasks.items _ c.into_iter-task-iterator.ensures.into_iter_gives.0 c.requires.none.1 c.requires.room;
-  runs = λ low all. record {
+  runs = λ first is all. record {
     worker = refl;
     handed = c.requires.fresh.1;
     runs = (c.requires.none.0, c.requires.fresh.0);
-    behind = lt-ltb c.args.finished.now.session.worker g.L.Round.start.opening.plan.workers low;
+    behind = is;
   };
 }
 
@@ -59,21 +57,19 @@ loop-task-preserved g c =
       left = left;
       spawned = c.in_ok-one.ensures.spawned.each c.loop-task.invariant.spawned;
       room = room_left (may_make_subject c.in-Some.task) c.in-Some.task c.next.new.self.rest.items c.loop-task.task-iterator.rest.items _ _ _ _ refl c.in-Some.ensures.steps.0 c.loop-task.invariant.room c.run_task.ensures.spawned.fits c.run_task.ensures.spawned.kept;
-      runs = λ low all.
-          let workers = g.L.Round.start.opening.plan.workers in
+      runs = λ first acts all.
           let asked : c.worker-in-loop-task.result ≡ c.run_task.new.session.worker = c.worker-in-loop-task.ensures in
-          let by = mapped_at boxed_of (IsRunBy workers x) c.loop-task.yielded c.in-Some.task c.next.new.self.rest.items c.args.tasks.items left all in
-          let more = run_more g.L.Round.start c.args.context.now.helpers workers x c.loop-task.served c.is_served_past-served.result (map boxed_of c.loop-task.yielded) c.loop-task.finished.told.items c.loop-task.finished.session c.run_task.new.session (boxed_of c.in-Some.task) c.in_ok-one.one
-          (c.loop-task.invariant.runs low all) by (λ before is ran. c.in_ok-one.ensures.run workers before is ran) (λ before is. c.is_served_past-served.ensures before (ap before asked ∙ is) ∙ ap (λ (n : ℕ). served_past before c.in-Some.task.line c.in_ok-one.one n) asked) in
-          let P : List Boxed → Type 0 = λ bs. HasRunSo g.L.Round.start c.args.context.now.helpers workers x c.is_served_past-served.result bs (c.loop-task.finished.told.items ++ c.in_ok-one.one ∷ []) c.run_task.new.session in
-          let Q : List Told → Type 0 = λ ts. HasRunSo g.L.Round.start c.args.context.now.helpers workers x c.is_served_past-served.result (map boxed_of (c.loop-task.yielded ++ c.in-Some.task ∷ [])) ts c.run_task.new.session in
+          let by = mapped_at boxed_of (λ b. IsRunFor x b.line) c.loop-task.yielded c.in-Some.task c.next.new.self.rest.items c.args.tasks.items left all in
+          let more = run_more g.L.Round.start c.args.context.now.helpers first x c.loop-task.served c.is_served_past-served.result (map boxed_of c.loop-task.yielded) c.loop-task.finished.told.items c.loop-task.finished.session c.run_task.new.session (boxed_of c.in-Some.task) c.in_ok-one.one
+          (c.loop-task.invariant.runs first acts all) by (λ before is ran. c.in_ok-one.ensures.run before is ran) (λ before is. c.is_served_past-served.ensures before (ap before asked ∙ is) ∙ ap (λ (n : ℕ). served_past before c.in-Some.task.line c.in_ok-one.one n) asked) in
+          let P : List Boxed → Type 0 = λ bs. HasRunSo g.L.Round.start c.args.context.now.helpers first x c.is_served_past-served.result bs (c.loop-task.finished.told.items ++ c.in_ok-one.one ∷ []) c.run_task.new.session in
+          let Q : List Told → Type 0 = λ ts. HasRunSo g.L.Round.start c.args.context.now.helpers first x c.is_served_past-served.result (map boxed_of (c.loop-task.yielded ++ c.in-Some.task ∷ [])) ts c.run_task.new.session in
           subst Q (sym c.in_ok-push.ensures.items) (subst P (sym (map_push boxed_of c.loop-task.yielded c.in-Some.task)) more);
     }
 
 pub returns-clause-ran : goal.returns-clause-ran
 returns-clause-ran g c =
     let all : c.loop-task.yielded ≡ c.args.tasks.items = all_came c.loop-task.yielded c.loop-task.task-iterator.rest.items c.args.tasks.items c.loop-task.invariant.left (sym c.loop-task.task-iterator.rest.ok.0 ∙ c.in-None.ensures.steps.0) in
-    λ low by.
-    let workers = g.L.Round.start.opening.plan.workers in
-    let i = c.loop-task.invariant.runs low by in
-    (i.worker, subst (λ (ts : List (Task _)). Runs (arena_now g.L.Round.start c.args.context.now.helpers c.loop-task.finished.session) (has_thread workers) (map boxed_of ts) c.loop-task.finished.told.items c.loop-task.finished.session.receipts) all i.runs, c.loop-task.invariant.spawned, i.handed)
+    λ first acts by.
+    let i = c.loop-task.invariant.runs first acts by in
+    (i.worker, subst (λ (ts : List (Task _)). Runs (arena_now g.L.Round.start c.args.context.now.helpers c.loop-task.finished.session) first (map boxed_of ts) c.loop-task.finished.told.items c.loop-task.finished.session.receipts) all i.runs, c.loop-task.invariant.spawned, i.handed)
