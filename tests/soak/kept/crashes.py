@@ -126,7 +126,7 @@ class Machine:
             for at, piece in sectors(call.number, call.data):
                 self.tear(content, at, piece, share)
         if file.calls:
-            self.spoil(content, len(file.synced))
+            self.spoil(content, len(file.synced), most_bytes(file))
         return bytes(content)
 
     def tear(self, content: bytearray, at: int, piece: bytes, share: float) -> None:
@@ -136,28 +136,36 @@ class Machine:
             old = bytes(content[at : at + len(piece)]).ljust(len(piece), b"\0")
             put(content, at, bytes(self.rng.choice(both) for both in zip(old, piece)))
 
-    def spoil(self, content: bytearray, length: int) -> None:
-        """Has the content end anywhere from a length on, or has other bytes from there on."""
+    def spoil(self, content: bytearray, length: int, most: int) -> None:
+        """Has the content end anywhere from a length on, or has other bytes from there on. It is never longer than the file was."""
         kind = self.rng.randrange(6) if len(content) > length else 6
         if kind == 0:
             del content[self.rng.randrange(length, len(content) + 1) :]
         elif kind == 1:
             content[length:] = self.rng.randbytes(len(content) - length)
         elif kind < 5:
-            forge(content, length)
+            forge(content, length, most)
 
 
-def forge(content: bytearray, length: int) -> None:
-    """Puts a line after the whole lines that end exactly at the length, or one byte before it."""
+def most_bytes(file: File) -> int:
+    """How long the file was at most since its last sync."""
+    most = length = len(file.synced)
+    for call in file.calls:
+        length = call.number if call.letter == "T" else max(length, call.number + len(call.data))
+        most = max(most, length)
+    return most
+
+
+def forge(content: bytearray, length: int, most: int) -> None:
+    """Puts a line after the whole lines, if the bytes from there on aren't synced, and the file was long enough."""
     end, before = 0, b"00000000"
     for line in bytes(content).split(b"\n")[:-1]:
         if line[-8:] != b"%08x" % zlib.crc32(before + line[:-10]):
             break
         end, before = end + len(line) + 1, line[-8:]
-    if end < length:
-        return
-    sum = b"%08x" % zlib.crc32(before + FORGED)
-    put(content, end, FORGED + b" @" + sum + b"\n\0")
+    line = FORGED + b" @%08x\n" % zlib.crc32(before + FORGED)
+    if length <= end <= most - len(line):
+        put(content, end, line)
 
 
 def is_change(call: Call) -> bool:
