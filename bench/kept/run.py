@@ -3,13 +3,13 @@
 
 What a store costs that is kept in a file, beside libsqlite3. The first table has answers a second, if a sync is for one answer, for 100,
 and for 1,000. An answer is the answer to a write. Beside it stand rows a second that libsqlite3 inserts in transactions of as many rows, in
-WAL with FULL sync. The second table has the time to open a file of N entries, 1,000,000 unless N is given. Beside it stands the time
-of a store without a file for the same commands.
+WAL with FULL sync. The second table has the time to open a file of N entries, 1,000,000 unless N is given. Beside it stand the time of
+`tgstore --resume` for the text of the same history, and the time of a store without a file for the same commands.
 
 A time is by the clock, as the median of three rounds unless N is given, in which both programs take turns. The files are in the
 folder, which is made in the folder for temporary files unless it is given. A disk that does nothing at a sync shows other figures, so the
 file system is printed. The program beside this script (main.rt.in) is built without proofs. It needs a C compiler and libsqlite3 with its
-header, and asserts nothing."""
+header. The second table needs the built tgstore. It asserts nothing."""
 import argparse
 import os
 import subprocess
@@ -21,6 +21,7 @@ from statistics import median
 
 sys.dont_write_bytecode = True
 sys.path.insert(0, str(Path(__file__).resolve().parents[2] / "tools"))
+from repository.tree import Tree
 from repository.unproved import build_beside
 
 HERE = Path(__file__).resolve().parent
@@ -73,6 +74,18 @@ def rates(kept, sqlite, folder, rounds):
         print(f"{f'a sync for {batch}':32} {ours:12,.0f} {theirs:12,.0f} {ours / theirs:8.2f}", flush=True)
 
 
+def resumed(path, text):
+    """How long tgstore takes to resume the history of a kept file."""
+    lines = [it[:-10] for it in path.read_bytes().split(b"\0", 1)[0].splitlines()]
+    entries = sum(b" = " in it for it in lines)
+    text.write_bytes(b"\n".join([b"kovshenul entries 1", *lines[1:], b"entries %d" % entries, b""]))
+    begun = time.monotonic()
+    ran = subprocess.run([Tree().program("tgstore"), "--resume", text], stdin=subprocess.DEVNULL, capture_output=True, text=True)
+    if ran.returncode:
+        sys.exit(f"kept: {ran.stderr}")
+    return time.monotonic() - begun
+
+
 def openings(kept, folder, rounds, entries):
     clear(folder)
     run, path = Program(kept), folder / "store.kept"
@@ -85,7 +98,10 @@ def openings(kept, folder, rounds, entries):
         run.seconds("drop")
         applies.append(run.seconds(f"apply {entries}"))
     ours, theirs = median(opens), median(applies)
-    print(f"{f'open a file of {entries:,} entries':48} {ours:8.2f} s, {ours / theirs:.2f} times the commands without a file ({theirs:.2f} s)")
+    resumes = [resumed(path, folder / "history") for _ in range(rounds)]
+    print(f"{f'open a file of {entries:,} entries':48} {ours:8.2f} s")
+    print(f"{'tgstore --resume, the text of the same history':48} {median(resumes):8.2f} s, ratio {ours / median(resumes):.2f}")
+    print(f"{'the same commands without a file':48} {theirs:8.2f} s, ratio {ours / theirs:.2f}")
 
 
 def main():
