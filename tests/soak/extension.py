@@ -56,6 +56,7 @@ def lay_out(folder):
     """Puts the package into the folder, beside the script that soaks it."""
     shutil.copytree(BINDINGS / "python", folder / "bindings" / "python")
     shutil.copy(BINDINGS / "kovshenul.h", folder / "bindings")
+    shutil.copytree(BINDINGS / "tests", folder / "bindings" / "tests")
     (folder / "tests" / "soak").mkdir(parents=True)
     shutil.copy(TOP / "tests" / "soak" / "python.py", folder / "tests" / "soak")
 
