@@ -805,14 +805,21 @@ static void a_user_is_unparked(void) {
     WANT(tg_audit(&store, &count) == TG_DONE && count == entries_of(&store) && tg_close(&store) == TG_DONE);
 }
 
-/* A user whose nursery is full gets nothing, and the account is as it was. After a collection there is room. */
-static void unparked_in_a_full_heap(void) {
+/* Opens a store whose heap is soon full, with host 0 and user 1. Returns an account of the host, with which it may park the user. */
+static uint64_t open_with_account(tg_store *store) {
     const tg_limits small = { 1000, 20, 4 };
     const tg_edge knows = { 0, 1, TG_GRANT };
+    uint64_t account;
+    WANT(tg_open(store, workers, 2, &knows, 1, &small) == TG_DONE);
+    WANT(tg_create(store, 0, TG_TAKE | TG_GRANT, &cell, &account) == TG_DONE && account == 2);
+    return account;
+}
+
+/* A user whose nursery is full gets nothing, and the account is as it was. After a collection there is room. */
+static void unparked_in_a_full_heap(void) {
     tg_store store = TG_STORE_INIT;
-    uint64_t account, name, made = 0, count = UNTOUCHED, rights;
-    WANT(tg_open(&store, workers, 2, &knows, 1, &small) == TG_DONE);
-    WANT(tg_create(&store, 0, TG_TAKE | TG_GRANT, &cell, &account) == TG_DONE && account == 2);
+    uint64_t name, made = 0, count = UNTOUCHED, rights;
+    const uint64_t account = open_with_account(&store);
     for (int i = 0; i < 12; i++)
         WANT(tg_create(&store, 0, TG_READ, &cell, &name) == TG_DONE && tg_grant(&store, 0, account, name, TG_READ, NULL) == TG_DONE);
     while (tg_create(&store, 1, TG_READ, &cell, &name) == TG_DONE && tg_remove(&store, 1, name, TG_READ, NULL) == TG_DONE)
@@ -830,12 +837,9 @@ static void unparked_in_a_full_heap(void) {
 
 /* A user whose nursery is full is refused, and everybody holds what it held. After a collection there is room. */
 static void parked_in_a_full_heap(void) {
-    const tg_limits small = { 1000, 20, 4 };
-    const tg_edge knows = { 0, 1, TG_GRANT };
     tg_store store = TG_STORE_INIT;
-    uint64_t account, name, made = 0, count = UNTOUCHED, rights;
-    WANT(tg_open(&store, workers, 2, &knows, 1, &small) == TG_DONE);
-    WANT(tg_create(&store, 0, TG_TAKE | TG_GRANT, &cell, &account) == TG_DONE && account == 2);
+    uint64_t name, made = 0, count = UNTOUCHED, rights;
+    const uint64_t account = open_with_account(&store);
     while (tg_create(&store, 1, TG_READ, &cell, &name) == TG_DONE)
         made++;
     WANT(made > 0);

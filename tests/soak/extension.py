@@ -1,9 +1,10 @@
 #!/usr/bin/env python3
 """extension.py [--only WORD]
 
-Plants a fault in Python's extension module, and builds it. Then it runs the tests of Python and 150,000 calls of python.py over it,
-until one of these fails, crashes or hangs. Then it plants the next fault. With --only it plants only the faults whose name has the
-word. Exit status 1 if a fault isn't found. It needs the headers of Python 3.11 or later, a C compiler, and what bindings/build built.
+Builds Python's extension module, and runs the tests of Python and 150,000 calls of python.py over it. All of these have to pass. Then it
+plants a fault in the module, and builds it. It runs the same tests and calls, until one of these fails, crashes or hangs. Then it plants
+the next fault. With --only it plants only the faults whose name has the word. Exit status 1 if a fault isn't found, or if something fails
+where no fault is planted. It needs the headers of Python 3.11 or later, a C compiler, and what bindings/build built.
 """
 import argparse
 import os
@@ -51,17 +52,27 @@ FAULTS = {
 }
 
 
-def plant(folder, file, text, other):
-    """Puts the package with the fault into the folder, beside the script that soaks it."""
+def lay_out(folder):
+    """Puts the package into the folder, beside the script that soaks it."""
     shutil.copytree(BINDINGS / "python", folder / "bindings" / "python")
     shutil.copy(BINDINGS / "kovshenul.h", folder / "bindings")
+    shutil.copytree(BINDINGS / "tests", folder / "bindings" / "tests")
     (folder / "tests" / "soak").mkdir(parents=True)
     shutil.copy(TOP / "tests" / "soak" / "python.py", folder / "tests" / "soak")
+
+
+def plant(folder, file, text, other):
+    """Plants the fault in the package of the folder."""
+    source = folder / "bindings" / "python" / "extension" / file
+    whole = source.read_text()
+    if whole.count(text) != 1:
+        sys.exit(f"extension.py: {file} has {whole.count(text)} times, and not once, the text {text!r}")
+    source.write_text(whole.replace(text, other))
+
+
+def build(folder):
+    """Builds the module of the folder."""
     sources = folder / "bindings" / "python" / "extension"
-    source = (sources / file).read_text()
-    if source.count(text) != 1:
-        sys.exit(f"extension.py: {file} has {source.count(text)} times, and not once, the text {text!r}")
-    (sources / file).write_text(source.replace(text, other))
     words = [os.environ.get("CC", "cc"), "-std=c11", "-O2", "-w", "-fPIC", "-fvisibility=hidden", "-shared", "-I../.."]
     words += ["-isystem", sysconfig.get_paths()["include"], "-o", "../kovshenul/_extension.abi3.so"]
     subprocess.run([*words, *sorted(path.name for path in sources.glob("*.c"))], cwd=sources, check=True)
@@ -83,17 +94,28 @@ def found_by(folder):
     return None
 
 
+def tried(fault=None):
+    """Which test finds the fault, and how it ends, or nothing. Without a fault the module is as it is."""
+    with tempfile.TemporaryDirectory() as folder:
+        lay_out(Path(folder))
+        if fault is not None:
+            plant(Path(folder), *fault)
+        build(Path(folder))
+        return found_by(Path(folder))
+
+
 def main():
     words = argparse.ArgumentParser(usage=__doc__)
     words.add_argument("--only", default="")
     asked = words.parse_args()
+    failed = tried()
+    if failed is not None:
+        sys.exit(f"extension.py: no fault was planted, and {failed}")
     missed = 0
     for name, fault in FAULTS.items():
         if asked.only not in name:
             continue
-        with tempfile.TemporaryDirectory() as folder:
-            plant(Path(folder), *fault)
-            found = found_by(Path(folder))
+        found = tried(fault)
         missed += found is None
         print(f"{name}: {found or 'NOT FOUND'}", flush=True)
     return missed

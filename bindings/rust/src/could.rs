@@ -1,8 +1,9 @@
 //! Questions about the future.
 use crate::error::served;
-use crate::raw::{self, RawAnswer, RawEdge, RawQuestion, RawRecord};
+use crate::raw::{self, RawAnswer, RawEdge, RawQuestion, RawRecord, RawStore};
 use crate::store::MOST_NUMBERS;
 use crate::{Deed, Edge, Error, Rights, Silent, Store};
+use std::borrow::Cow;
 use std::ptr::null_mut;
 
 /// A command of a worker that acts.
@@ -89,25 +90,9 @@ impl Store {
         silent: impl Into<Silent<'a>>,
         as_if: &[Edge],
     ) -> Result<Could, Error> {
-        let silent = self.silent(silent.into())?;
-        let edges: Vec<RawEdge> = as_if.iter().map(RawEdge::from).collect();
-        let mut answer = Answer(RawAnswer {
-            is_open: false,
-            at: null_mut(),
-        });
-        served(unsafe {
-            raw::tg_could(
-                self.at(),
-                silent.as_ptr(),
-                silent.len(),
-                edges.as_ptr(),
-                edges.len(),
-                x,
-                right.bits(),
-                y,
-                &mut answer.0,
-            )
-        })?;
+        let scene = self.scene(silent.into(), as_if)?;
+        let mut answer = Answer::none();
+        self.ask(raw::tg_could, Question { x, right, y }, &scene, &mut answer.0)?;
         answer.told()
     }
 }
@@ -171,22 +156,9 @@ impl Store {
         silent: impl Into<Silent<'a>>,
         as_if: &[Edge],
     ) -> Result<CouldKind, Error> {
-        let silent = self.silent(silent.into())?;
-        let edges: Vec<RawEdge> = as_if.iter().map(RawEdge::from).collect();
+        let scene = self.scene(silent.into(), as_if)?;
         let mut kind = 0;
-        served(unsafe {
-            raw::tg_could_kind(
-                self.at(),
-                silent.as_ptr(),
-                silent.len(),
-                edges.as_ptr(),
-                edges.len(),
-                x,
-                right.bits(),
-                y,
-                &mut kind,
-            )
-        })?;
+        self.ask(raw::tg_could_kind, Question { x, right, y }, &scene, &mut kind)?;
         Ok(match kind {
             raw::NEVER => CouldKind::Never,
             raw::NOW => CouldKind::Now,
@@ -222,21 +194,17 @@ impl Store {
         silent: impl Into<Silent<'a>>,
         as_if: &[Edge],
     ) -> Result<Option<Breach>, Error> {
-        let silent = self.silent(silent.into())?;
-        let edges: Vec<RawEdge> = as_if.iter().map(RawEdge::from).collect();
+        let scene = self.scene(silent.into(), as_if)?;
         let asked: Vec<RawQuestion> = questions.iter().map(RawQuestion::from).collect();
         let mut at = 0;
-        let mut answer = Answer(RawAnswer {
-            is_open: false,
-            at: null_mut(),
-        });
+        let mut answer = Answer::none();
         served(unsafe {
             raw::tg_could_any(
                 self.at(),
-                silent.as_ptr(),
-                silent.len(),
-                edges.as_ptr(),
-                edges.len(),
+                scene.silent.as_ptr(),
+                scene.silent.len(),
+                scene.edges.as_ptr(),
+                scene.edges.len(),
                 asked.as_ptr(),
                 asked.len(),
                 &mut at,
@@ -251,12 +219,56 @@ impl Store {
             answer: answer.told()?,
         }))
     }
+
+    // What is supposed in a question about this store.
+    pub(crate) fn scene<'a>(&self, silent: Silent<'a>, as_if: &[Edge]) -> Result<Scene<'a>, Error> {
+        Ok(Scene {
+            silent: self.silent(silent)?,
+            edges: as_if.iter().map(RawEdge::from).collect(),
+        })
+    }
+
+    // Asks one question by the call, which leaves its answer in the place.
+    fn ask<T>(&self, call: Ask<T>, question: Question, scene: &Scene, place: &mut T) -> Result<(), Error> {
+        served(unsafe {
+            call(
+                self.at(),
+                scene.silent.as_ptr(),
+                scene.silent.len(),
+                scene.edges.as_ptr(),
+                scene.edges.len(),
+                question.x,
+                question.right.bits(),
+                question.y,
+                place,
+            )
+        })
+    }
 }
+
+// What a question supposes: the workers that take no turns, and edges that are there too.
+pub(crate) struct Scene<'a> {
+    pub(crate) silent: Cow<'a, [u64]>,
+    pub(crate) edges: Vec<RawEdge>,
+}
+
+// A function of the library that answers one question: the store, the silent workers, the edges, x, the right, y, and the
+// place of the answer.
+type Ask<T> =
+    unsafe extern "C" fn(*mut RawStore, *const u64, usize, *const RawEdge, usize, u64, u64, u64, &mut T) -> u32;
 
 // An answer of the library, which is given back where this is dropped.
 struct Answer(RawAnswer);
 
 impl Answer {
+    // The place for an answer, which has none yet.
+    fn none() -> Answer {
+        Answer(RawAnswer {
+            is_open: false,
+            at: null_mut(),
+        })
+    }
+
     // What an open one says.
     fn told(&mut self) -> Result<Could, Error> {
         let mut kind = 0;

@@ -54,8 +54,7 @@ impl Store {
     /// were there too. The silent workers are given as to [`Store::could`]. The journal gets no entry. It is refused as
     /// `could` is for a silent name or a supposed edge.
     pub fn view<'a>(&self, silent: impl Into<Silent<'a>>, as_if: &[Edge]) -> Result<View, Error> {
-        let silent = self.silent(silent.into())?;
-        let edges: Vec<RawEdge> = as_if.iter().map(RawEdge::from).collect();
+        let scene = self.scene(silent.into(), as_if)?;
         let view = View {
             place: UnsafeCell::new(RawView {
                 is_open: false,
@@ -65,10 +64,10 @@ impl Store {
         served(unsafe {
             raw::tg_view_open(
                 self.at(),
-                silent.as_ptr(),
-                silent.len(),
-                edges.as_ptr(),
-                edges.len(),
+                scene.silent.as_ptr(),
+                scene.silent.len(),
+                scene.edges.as_ptr(),
+                scene.edges.len(),
                 view.place.get(),
             )
         })?;
