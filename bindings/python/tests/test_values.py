@@ -556,7 +556,7 @@ class Stores(unittest.TestCase):
             self.assertEqual((store.label(0, account), store.edges_to(account)), (0, []))
             again = store.spawn(0, GRANT, Cell(0))
             self.assertRaisesRegex(Denied, f"grant: t is missing on 0->account", store.unpark, 0, again, account)
-            store.collect()
+            self.assertEqual(store.collect(), 7)
             self.assertNotIn(account, store.names())
             self.assertEqual(store.audit(), store.entries())
 

@@ -11,13 +11,13 @@ mod by_law;
 #[cfg(test)]
 mod could;
 #[cfg(test)]
+mod files;
+#[cfg(test)]
 mod helpers;
 #[cfg(test)]
 mod meet;
 #[cfg(test)]
 mod opened;
-#[cfg(test)]
-mod parked;
 #[cfg(test)]
 mod payloads;
 #[cfg(test)]

@@ -1,18 +1,40 @@
 //! Stores and what they are opened with.
 
 use std::alloc::Global;
-use tg_model::{Edge, Opening};
+use tg_model::{Command, Edge, Opening};
 use tg_payload::{CellPayload, Draft, Payload, values_of};
-use tg_store::{Limits, Store};
+use tg_store::{CreateFault, CreateRefused, Limits, Store};
+
+/// A draft of a cell with 0.
+pub(crate) fn cell(alloc: Global) -> Option<Draft<CellPayload>> {
+    Draft::new(alloc, CellPayload::new(0)).ok()
+}
 
 /// Drafts of so many cells with 0.
 pub(crate) fn cells(alloc: Global, count: u64) -> Option<Vec<Draft<CellPayload>>> {
     let mut cells = Vec::new(alloc);
     for _ in 0..count {
-        let cell = Draft::new(alloc, CellPayload::new(0)).ok()?;
-        cells.push(cell).ok()?;
+        cells.push(cell(alloc)?).ok()?;
     }
     Some(cells)
+}
+
+/// Whether a store answers a command of a worker. The reply is passed over.
+pub(crate) fn is_answered<P: Payload>(store: &mut Store<P>, worker: u64, command: Command) -> bool {
+    match store.apply(worker, command) {
+        Ok(reply) => {
+            drop(reply);
+            true
+        }
+        Err(_) => false,
+    }
+}
+
+/// Why a vertex isn't made. The draft is dropped.
+pub(crate) fn reason_of<P: Payload>(refused: CreateRefused<P>) -> CreateFault {
+    let why = refused.why;
+    drop(refused);
+    why
 }
 
 /// An opening of workers with these drafts, and no edge, in which so many vertices may be made.

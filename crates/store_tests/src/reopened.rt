@@ -3,7 +3,7 @@
 //! A library for C has the snapshots of auditors alone, and makes the opening itself. What a store answers that was
 //! opened again is a test in Python (`FromSnapshot` in `bindings/python/tests/test_going_on.py`).
 use crate::by_law::{all_on_values, make, open, opening};
-use crate::opened::{cells, opening_of};
+use crate::opened::{cells, is_answered, opening_of};
 use std::alloc::Global;
 use tg_model::{Command, Law, Making, Opening};
 use tg_payload::LawPayload;
@@ -126,26 +126,16 @@ fn steps() -> [(u64, Command); 6] {
     ]
 }
 
-// Lets workers of the store do all this.
-fn work(alloc: Global, store: &mut Store<LawPayload>) -> Option<()> {
-    make_all(alloc, store)?;
+// Lets workers of the store do all this, and collects the store if a kind is given. Whether all of it is done.
+fn is_used(alloc: Global, store: &mut Store<LawPayload>, collects: Option<Kind>) -> bool {
+    let mut is_done = make_all(alloc, store).is_some();
     for (worker, command) in steps() {
-        store.apply(worker, command).ok()?;
+        is_done &= is_answered(store, worker, command);
     }
-    Some(())
-}
-
-// The same, and collects the store if a kind is given.
-fn work_and_collect(
-    alloc: Global,
-    store: &mut Store<LawPayload>,
-    collects: Option<Kind>,
-) -> Option<()> {
-    work(alloc, store)?;
     if let Some(kind) = collects {
-        store.collect(kind).ok()?;
+        is_done &= store.collect(kind).is_ok();
     }
-    Some(())
+    is_done
 }
 
 // Whether a snapshot has this text.
@@ -157,11 +147,17 @@ fn is_text(alloc: Global, snapshot: &Snapshot, wanted: &[u8]) -> bool {
 }
 
 // Whether the snapshot of a store has the text, once two more vertices were made.
-fn has_text_of_reopened(alloc: Global, store: &mut Store<LawPayload>) -> Option<bool> {
-    make(alloc, store, 1, Making::Object, LawPayload::cell(0))?;
-    make(alloc, store, 5, Making::Subject, LawPayload::cell(0))?;
-    let snapshot = store.snapshot(alloc).ok()?;
-    Some(is_text(alloc, &snapshot, text_of_reopened()))
+fn has_text_of_reopened(alloc: Global, store: &mut Store<LawPayload>) -> bool {
+    let object = make(alloc, store, 1, Making::Object, LawPayload::cell(0));
+    let subject = make(alloc, store, 5, Making::Subject, LawPayload::cell(0));
+    match store.snapshot(alloc) {
+        Ok(snapshot) => {
+            let has_text = is_text(alloc, &snapshot, text_of_reopened());
+            drop(snapshot);
+            (object, subject, has_text) == (Some(8), Some(9), true)
+        }
+        Err(_) => false,
+    }
 }
 
 // Opens a store again from a snapshot with an opening. Whether its snapshot has the text, or why it is refused.
@@ -175,12 +171,13 @@ fn reopen(
         Ok(mut store) => {
             let has_text = has_text_of_reopened(alloc, &mut store);
             store.let_go();
-            match has_text {
-                Some(has_text) => Some(Ok(has_text)),
-                None => None,
-            }
+            Some(Ok(has_text))
         }
-        Err(ReopenRefused { opening, why }) => Some(Err((why, opening.workers()))),
+        Err(ReopenRefused { opening, why }) => {
+            let workers = opening.workers();
+            drop(opening);
+            Some(Err((why, workers)))
+        }
     }
 }
 
@@ -196,13 +193,38 @@ fn refusal_of_limit(alloc: Global, snapshot: &Snapshot) -> Refusal {
     reopen(alloc, other, snapshot)?.err()
 }
 
+// Whether all workers of the store retire.
+fn do_all_retire(store: &mut Store<LawPayload>) -> bool {
+    let mut is_done = true;
+    for worker in [0, 1, 5] {
+        is_done &= is_answered(store, worker, Command::Retire);
+    }
+    is_done
+}
+
+// The refusal of a snapshot, with the opening of its store.
+fn refusal_of(alloc: Global, snapshot: &Snapshot) -> Refusal {
+    reopen(alloc, opening(alloc)?, snapshot)?.err()
+}
+
 // The refusal of the snapshot of a store in which nobody acts any more.
 fn refusal_of_nobody(alloc: Global, store: &mut Store<LawPayload>) -> Refusal {
-    for worker in [0, 1, 5] {
-        store.apply(worker, Command::Retire).ok()?;
+    if !do_all_retire(store) {
+        return None;
     }
     let snapshot = store.snapshot(alloc).ok()?;
-    reopen(alloc, opening(alloc)?, &snapshot)?.err()
+    let refusal = refusal_of(alloc, &snapshot);
+    drop(snapshot);
+    refusal
+}
+
+// What is seen of the snapshot of a used store.
+fn seen_of_used(alloc: Global, store: &Store<LawPayload>) -> Option<([bool; 2], Refusal)> {
+    let snapshot = store.snapshot(alloc).ok()?;
+    let texts = have_texts(alloc, &snapshot);
+    let of_limit = refusal_of_limit(alloc, &snapshot);
+    drop(snapshot);
+    Some((texts?, of_limit))
 }
 
 fn seen_of(
@@ -210,11 +232,10 @@ fn seen_of(
     store: &mut Store<LawPayload>,
     collects: Option<Kind>,
 ) -> Option<SnapshotSeen> {
-    work_and_collect(alloc, store, collects)?;
-    let snapshot = store.snapshot(alloc).ok()?;
-    let texts = have_texts(alloc, &snapshot)?;
-    let of_limit = refusal_of_limit(alloc, &snapshot);
-    drop(snapshot);
+    if !is_used(alloc, store, collects) {
+        return None;
+    }
+    let (texts, of_limit) = seen_of_used(alloc, store)?;
     Some((texts, [of_limit, refusal_of_nobody(alloc, store)]))
 }
 

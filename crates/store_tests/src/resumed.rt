@@ -1,7 +1,7 @@
 //! What a store that was resumed has beside what the contracts of `tg_resume` say. What two stores answer to the same
-//! commands is a test in Python (`FromEntries` in `bindings/python/tests/test_going_on.py`).
+//! commands is a test in Python (`FromEntries` in `bindings/python/tests/test_going_on.py`). The places of entries that
+//! aren't legal are in the same file.
 
-mod bad;
 mod hosts;
 mod shown;
 

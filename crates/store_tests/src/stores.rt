@@ -1,12 +1,11 @@
-//! A store with payloads of its user's own. It shows what the store lends of them, and why it is full. The edges to a
-//! vertex are listed.
+//! A store with payloads of its user's own. It shows what the store lends of them, and why it is full.
 
-use crate::opened;
+use crate::opened::{self, is_answered, reason_of};
 use crate::tagged::{Tagged, draft, drafts};
 use std::alloc::Global;
-use tg_model::{Command, Edge};
+use tg_model::Command;
 use tg_payload::Payload;
-use tg_rights::{Label, Right, Rights};
+use tg_rights::Label;
 use tg_store::{CreateFault, Kind, Limits, RoomFault, Store};
 
 // A store of two workers, in whose heap a space has at most one block.
@@ -19,7 +18,10 @@ fn open(alloc: Global) -> Option<Store<Tagged>> {
 fn why_not_made(alloc: Global, store: &mut Store<Tagged>) -> Option<CreateFault> {
     let label = Label::read_text(b"rw")?;
     let draft = draft(alloc, 12)?;
-    Some(store.create(0, label, draft).err()?.why)
+    match store.create(0, label, draft) {
+        Ok(_) => None,
+        Err(refused) => Some(reason_of(refused)),
+    }
 }
 
 // The tag of the vertex and its number, added up, where they are lent to worker 0, and else 0.
@@ -37,7 +39,7 @@ fn makes_and_writes(alloc: Global, store: &mut Store<Tagged>) -> bool {
         value: 5,
     };
     why_not_made(alloc, store).is_none()
-        && store.apply(0, write).is_ok()
+        && is_answered(store, 0, write)
         && store.collect(Kind::Full).is_ok()
 }
 
@@ -81,45 +83,4 @@ fn seen_of_full(alloc: Global) -> Option<(Option<CreateFault>, [Option<RoomFault
 fn one_block_a_space(rt: HostRuntime) {
     let full = Some(RoomFault::HeapFull);
     assert!(rt; seen_of_full(rt.alloc()) == Some((Some(CreateFault::HeapFull), [full, full])));
-}
-
-// A store of three workers, of which worker 1 may read worker 2.
-fn open_with_edge(alloc: Global) -> Option<Store<Tagged>> {
-    let limits = Limits::new(8, 8).ok()?;
-    let drafts = drafts(alloc, 0, 3)?;
-    let edge = Edge {
-        from: 1,
-        to: 2,
-        label: Label::read_text(b"r")?,
-    };
-    let edges = vec![in alloc; edge].ok()?;
-    let opening = opened::opening_with(alloc, &drafts, edges, 10)?;
-    Store::open(alloc, opening, limits, drafts).ok()
-}
-
-// How many edges lead to a vertex, and the first of them.
-fn edges_to(
-    alloc: Global,
-    store: &Store<Tagged>,
-    name: u64,
-) -> Option<(usize, Option<(u64, Label)>)> {
-    let edges = store.edges_to(alloc, name).ok()?;
-    Some((edges.len(), edges.first().copied()))
-}
-
-// The edges to worker 2, and those to a name that was never made.
-fn seen_of_edges(alloc: Global) -> Option<[Option<(usize, Option<(u64, Label)>)>; 2]> {
-    let store = open_with_edge(alloc)?;
-    let seen = [edges_to(alloc, &store, 2), edges_to(alloc, &store, 9)];
-    store.let_go();
-    Some(seen)
-}
-
-#[test]
-fn edges_to_a_vertex_are_listed(rt: HostRuntime) {
-    let wanted = [
-        Some((1, Some((1, Label::new(Rights::of(Right::R)).unwrap())))),
-        Some((0, None)),
-    ];
-    assert!(rt; seen_of_edges(rt.alloc()) == Some(wanted));
 }

@@ -29,8 +29,6 @@ mod begin;
 mod fault;
 mod open;
 mod run;
-#[cfg(test)]
-mod tests;
 
 pub use begin::{BegunFile, begin_kept};
 pub use fault::{BeginFault, PathOpenFault, RunFault};

@@ -1,6 +1,6 @@
 //! Payloads of a host's own, which the host's maker makes by name. The entries are resumed in two parts.
 use super::whole;
-use crate::opened;
+use crate::opened::{self, is_answered, reason_of};
 use crate::tagged::{Tagged, draft, drafts};
 use std::alloc::{AllocError, Global};
 use tg_model::{Command, Law, MAX_WORKERS};
@@ -47,7 +47,7 @@ fn read() -> Label {
 fn spawn_refused(alloc: Global, store: &mut Store<Tagged>) -> Option<CreateFault> {
     match store.spawn(0, read(), draft(alloc, 0)?) {
         Ok(_) => None,
-        Err(refused) => Some(refused.why),
+        Err(refused) => Some(reason_of(refused)),
     }
 }
 
@@ -55,7 +55,7 @@ fn spawn_refused(alloc: Global, store: &mut Store<Tagged>) -> Option<CreateFault
 fn create_refused(alloc: Global, store: &mut Store<Tagged>) -> Option<CreateFault> {
     match store.create(1, read(), draft(alloc, 0)?) {
         Ok(_) => None,
-        Err(refused) => Some(refused.why),
+        Err(refused) => Some(reason_of(refused)),
     }
 }
 
@@ -114,7 +114,7 @@ fn seen_of(alloc: Global, tagging: &mut Tagging, part: Part) -> Option<(Option<u
 
 // Lets workers of the store list, spawn and create, and resumes another from its journal.
 fn seen_again(alloc: Global, store: &mut Store<Tagged>) -> Option<HostSeen> {
-    let is_listed = store.apply(0, Command::List).is_ok();
+    let is_listed = is_answered(store, 0, Command::List);
     let refused = [
         spawn_refused(alloc, store),
         create_refused(alloc, store),

@@ -63,6 +63,7 @@ fn creates<L: Round, R: Wait>(
     };
     let made = session.create_all(rt, store, read_and_write(), &mut drafts);
     let left = drafts.len() as u64;
+    drop(drafts);
     match session.receipts().get(before..) {
         Some(added) => (made, left, ends_of(added)),
         None => (made, left, [None; 4]),

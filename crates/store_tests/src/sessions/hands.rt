@@ -46,19 +46,19 @@ fn only(right: Right) -> Label {
 // Workers 0 and 1 may take from one worker and grant to another. The first of these may read the target and write to
 // it, and worker 0 may read it.
 fn edges(alloc: Global) -> Option<Vec<Edge>> {
-    let labels = [
-        (0, FROM, only(Right::T)),
-        (0, TO, only(Right::G)),
-        (0, TARGET, only(Right::R)),
-        (1, FROM, only(Right::T)),
-        (1, TO, only(Right::G)),
-        (FROM, TARGET, read_and_write()),
+    let edges = [
+        edge(0, FROM, only(Right::T)),
+        edge(0, TO, only(Right::G)),
+        edge(0, TARGET, only(Right::R)),
+        edge(1, FROM, only(Right::T)),
+        edge(1, TO, only(Right::G)),
+        edge(FROM, TARGET, read_and_write()),
     ];
-    let mut edges = Vec::new(alloc);
-    for (from, to, label) in labels {
-        edges.push(Edge { from, to, label }).ok()?;
-    }
-    Some(edges)
+    Vec::from_array(alloc, edges).ok()
+}
+
+fn edge(from: u64, to: u64, label: Label) -> Edge {
+    Edge { from, to, label }
 }
 
 // A store of five workers with these edges.

@@ -2,6 +2,7 @@
 ghost use Rattle.std.specs.Prelude.{◌≡◌, ◌+◌, ◌≤◌, IfSome};
 ghost use Rattle.tg_store.specs.Store.{graph_of_store};
 
+use crate::opened::{cell, cells};
 use std::alloc::Global;
 use std::sync::Wait;
 use tg_model::{Command, Opening};
@@ -9,20 +10,6 @@ use tg_payload::{CellPayload, Draft, values_of};
 use tg_rights::{Label, Right, Rights};
 use tg_shared::{Round, Session, SharedStore};
 use tg_store::{Limits, Store};
-
-/// A draft of a cell with 0.
-pub(crate) fn draft(alloc: Global) -> Option<Draft<CellPayload>> {
-    Draft::new(alloc, CellPayload::new(0)).ok()
-}
-
-// The drafts of two workers.
-fn two_drafts(alloc: Global) -> Option<Vec<Draft<CellPayload>>> {
-    let mut drafts = Vec::new(alloc);
-    for _ in 0..2 {
-        drafts.push(draft(alloc)?).ok()?;
-    }
-    Some(drafts)
-}
 
 // An opening of two workers with these drafts. Five vertices may be made.
 fn opening_of(alloc: Global, drafts: &[Draft<CellPayload>]) -> Option<Opening>
@@ -37,7 +24,7 @@ pub(crate) fn open_store(alloc: Global) -> Option<Store<CellPayload>>
     ensures { IfSome result (λ store. (graph_of_store store).made + 3 ≤ (graph_of_store store).limit) }
 {
     let limits = Limits::new(64, 16).ok()?;
-    let drafts = two_drafts(alloc)?;
+    let drafts = cells(alloc, 2)?;
     let opening = opening_of(alloc, &drafts)?;
     Store::open(alloc, opening, limits, drafts).ok()
 }
@@ -64,7 +51,7 @@ pub(crate) fn makes<L: Round, R: Wait>(
     store: &SharedStore<L, CellPayload>,
     session: &mut Session<L>,
 ) -> bool {
-    match draft(alloc) {
+    match cell(alloc) {
         Some(draft) => session.create(rt, store, read_and_write(), draft).is_ok(),
         None => false,
     }
@@ -77,7 +64,7 @@ pub(crate) fn spawned_by<L: Round, R: Wait>(
     store: &SharedStore<L, CellPayload>,
     session: &mut Session<L>,
 ) -> Option<Session<L>> {
-    match draft(alloc) {
+    match cell(alloc) {
         Some(draft) => session.spawn(rt, store, read_and_write(), draft).ok(),
         None => None,
     }

@@ -1,9 +1,9 @@
 //! A user of a shared store whom the keeper parks, and who comes back as a new subject with a session of its own.
 ghost use Rattle.std.specs.Prelude.{◌≡◌, true};
 
-use super::opened::{draft, is_answered};
+use super::opened::is_answered;
 use super::rounds::{RoundWay, SharedRound, play_round};
-use crate::opened::{cells, opening_with};
+use crate::opened::{cell, cells, opening_with};
 use std::alloc::Global;
 use std::sync::Wait;
 use tg_model::{Command, Edge};
@@ -45,7 +45,6 @@ fn two(first: Right, second: Right) -> Label {
 
 // The host holds take and grant over the user, and the user may read the host.
 fn edges(alloc: Global) -> Option<Vec<Edge>> {
-    let mut edges = Vec::new(alloc);
     let over_user = Edge {
         from: HOST,
         to: USER,
@@ -54,11 +53,9 @@ fn edges(alloc: Global) -> Option<Vec<Edge>> {
     let over_host = Edge {
         from: USER,
         to: HOST,
-        label: Label::new(Rights::of(Right::R))?,
+        label: Label::new(Rights::of(Right::R)).unwrap(),
     };
-    edges.push(over_user).ok()?;
-    edges.push(over_host).ok()?;
-    Some(edges)
+    Vec::from_array(alloc, [over_user, over_host]).ok()
 }
 
 // A store of the host and the user.
@@ -148,8 +145,8 @@ fn go_and_come<L: Round, R: Wait>(
     requires may_end { L.start.may_end ≡ true }
 {
     let both = two(Right::T, Right::G);
-    let account = host.create(rt, &kept.store, both, draft(alloc)?).ok()?;
-    let mut back = host.spawn(rt, &kept.store, both, draft(alloc)?).ok()?;
+    let account = host.create(rt, &kept.store, both, cell(alloc)?).ok()?;
+    let mut back = host.spawn(rt, &kept.store, both, cell(alloc)?).ok()?;
     let ([parked, nobody, in_use], after) = park_thrice(rt, kept, user, account, back.worker());
     let first = unpark(rt, kept, into(back.worker(), account));
     let second = unpark(rt, kept, into(back.worker(), account));

@@ -5,7 +5,8 @@ ghost use Rattle.tg_store.specs.Store.{graph_of_store};
 ghost use Rattle.tg_shared.specs.Sessions.{MayShare};
 ghost use Rattle.tg_shares.specs.Shares.{MayShareOut};
 
-use super::opened::{Counted, counted, draft, open_store, read_and_write};
+use super::opened::{Counted, counted, open_store, read_and_write};
+use crate::opened::cell;
 use std::alloc::Global;
 use std::marker::Brand;
 use std::sync::Wait;
@@ -51,7 +52,7 @@ fn makes<L: Round, V: Ledger, E: Ledger, R: Wait>(
     if client.purse.may_make(0, Portion::none()).is_err() {
         return false;
     }
-    match draft(alloc) {
+    match cell(alloc) {
         Some(draft) => client.create(rt, store, read_and_write(), draft).is_ok(),
         None => false,
     }

@@ -1,17 +1,9 @@
 //! Why a round doesn't end and why a share refuses, as a host prints it.
+use crate::shown::is_shown;
 use std::alloc::Global;
-use std::fmt::Display;
 use tg_shared::CloseFault;
 use tg_shares::{Lack, LeaveFault, ShareFault};
 use tg_store::ApplyFault;
-
-// Whether it is shown with this text.
-fn is_shown<T: Display + Drop>(alloc: Global, shown: T, wanted: &str) -> bool {
-    match format!(in alloc; "{shown}") {
-        Ok(text) => text.as_str() == wanted,
-        Err(_) => false,
-    }
-}
 
 // The fault that worker 2 has too few vertices or entries.
 fn share_of(lacks: Lack) -> ShareFault {
