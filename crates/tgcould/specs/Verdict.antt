@@ -63,6 +63,10 @@ FailsPolicies matches refused = HasPolicy matches × (¬ AllowsDenied matches) �
 abbrev pub SaysStock : ArgMatches → PlainOptions → Type 0
 SaysStock matches options = option_map (λ s. s.now) options.stock ≡ first_value (found_of matches) (codes "stock")
 
+-- the name of the kept file is the text of its option, or none if the option isn't in the words
+abbrev pub SaysKept : ArgMatches → PlainOptions → Type 0
+SaysKept matches options = option_map (λ s. s.now) options.kept ≡ first_value (found_of matches) (codes "kept")
+
 -- The meaning of the exit status for a script or a history that was read to its end. If it is known which bytes the reader had,
 -- they are its text. If the status is 0, all policies are kept on the graph that it leaves. It is 3 exactly if lines of the script
 -- fail the policies.

@@ -3,7 +3,7 @@
 use clap::builder::ValueParser;
 use clap::{ArgAction, ArgMatches};
 use tg_plain::{
-    Choice, CommandLine, PlainFault, PlainOptions, STOCK, VERTICES, WORKERS, read_options,
+    Choice, CommandLine, KEPT, PlainFault, PlainOptions, STOCK, VERTICES, WORKERS, read_options,
 };
 
 const ABOUT: &str = "Draws the graph that a script leaves, for GraphViz's dot
@@ -47,6 +47,7 @@ const CHOICES: &[Choice] = &[
     WORKERS,
     VERTICES,
     STOCK,
+    KEPT,
     Choice {
         name: "steps",
         action: ArgAction::SetTrue,
