@@ -1,5 +1,6 @@
 -- The text of a history that a kept file says, and why a file isn't read.
-use Rattle.std.specs.Prelude.{◌≡◌, ℕ, ◌+◌, ◌<◌, Bool, false, List, ◌∷◌, [], ◌++◌, length, take, drop, sum_by, is_ascii_digit}
+use Rattle.std.specs.Prelude.{◌≡◌, ℕ, ◌+◌, ◌<◌, Bool, false, List, ◌∷◌, [], ◌++◌, length, take, drop, sum_by}
+use Rattle.std.specs.Char.{is_ascii_digit}
 use Rattle.std.specs.List.{count_by, flat_map}
 use Rattle.tg_entries.specs.Texts.{end_text, version_text}
 use Rattle.tg_keep.specs.Lines.{file_texts, first_sum, length_after}

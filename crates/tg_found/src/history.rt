@@ -19,10 +19,10 @@ pub struct KeptHistory {
 }
 
 /// The history that the bytes of a kept file say, up to the last whole line. `Ok` is returned only if the file may be
-/// opened, and if its lines are the text of exactly this history, which is legal. A mark among the lines has to have the
-/// number of entries before it. `File` says that the file isn't one of ours or is damaged, as [`report_of`] does. `Line`
-/// names a line that doesn't go on with the lines before it. `NoOpening` says that the opening isn't whole. Memory grows
-/// with the file and with the entries.
+/// opened, and if its lines are the text of exactly this history, which is legal. A mark among the lines has to have
+/// the number of entries before it. `File` says that the file isn't one of ours or is damaged, as [`report_of`] does.
+/// `Line` names a line that doesn't go on with the lines before it. `NoOpening` says that the opening isn't whole.
+/// Memory grows with the file and with the entries.
 pub fn kept_history(alloc: Global, file: &[u8]) -> Result<KeptHistory, KeptFault>
     ensures text { IfOk result (λ kept. IsTextOf (kept_text file.now) kept.history) }
     ensures opens { OnOk result (MayOpen file.now) }
@@ -56,17 +56,17 @@ fn fault_in(file: &[u8], fault: TextFault) -> KeptFault
     ensures { RefusesKept file.now result }
 {
     match fault {
-        TextFault::Line { line, why } => fault_of_line(file, line, why),
+        TextFault::Line { line, why } => fault_of_line(file, line as usize, why),
         TextFault::Stream(error) => KeptFault::File(FileFault::Io(error)),
-        TextFault::CutOff { line } => fault_of_line(file, line, LineFault::BadLine),
+        TextFault::CutOff { line } => fault_of_line(file, line as usize, LineFault::BadLine),
         TextFault::NoSum | TextFault::OtherSum => {
-            fault_of_line(file, u64::MAX, LineFault::BadLine)
+            fault_of_line(file, usize::MAX, LineFault::BadLine)
         }
     }
 }
 
 // The fault of the line of this number, if the file has such a line. Else the opening isn't whole.
-fn fault_of_line(file: &[u8], number: u64, why: LineFault) -> KeptFault
+fn fault_of_line(file: &[u8], number: usize, why: LineFault) -> KeptFault
     ensures { RefusesKept file.now result }
 {
     let mut reader = LineReader::new(file);
@@ -74,7 +74,7 @@ fn fault_of_line(file: &[u8], number: u64, why: LineFault) -> KeptFault
     let mut byte = 0;
     while let Some(_) = reader.next() {
         lines += 1;
-        if lines as u64 == number {
+        if lines == number {
             return KeptFault::Line {
                 line: lines,
                 byte,

@@ -11,8 +11,8 @@
 //! | [`UnreadFile`] | the text of a fault, and what would be right |
 //! | [`TornEnd`] | the end that a crash cut off, which is no fault |
 //!
-//! The definition to believe is `kept_text`, with those of `tg_keep` and `tg_entries` that it uses. A program that audits
-//! a file takes a line at a time, and uses the faults and the texts of this crate. Nothing here opens a file.
+//! The definition to believe is `kept_text`, with those of `tg_keep` and `tg_entries` that it uses. A program that
+//! audits a file takes a line at a time, and uses the faults and the texts of this crate. Nothing here opens a file.
 #![tactic(auto)]
 
 mod advice;

@@ -5,8 +5,8 @@ use std::str;
 // How many bytes of a first line are shown.
 const SHOWN: usize = 40;
 
-/// How many bytes of a file are left out, if only the bytes before this place are read. The zeros at the end of the file
-/// don't count.
+/// How many bytes of a file are left out, if only the bytes before this place are read. The zeros at the end of the
+/// file don't count.
 pub fn bytes_left_out(file: &[u8], end: usize) -> usize {
     torn_bytes(&file[end.min(file.len())..])
 }

@@ -1,7 +1,9 @@
 //! The text of the history that a kept file says.
-ghost use Rattle.std.specs.Prelude.{◌≡◌, ◌++◌, IfOk, OnOk, string_bytes};
-ghost use Rattle.tg_entries.specs.Texts.{end_text, version_text};
-ghost use Rattle.tg_found.specs.Kept.{begins_with_digit, ended_line, kept_text};
+ghost use Rattle.std.specs.Prelude.{◌≡◌, ◌≤◌, ◌++◌, IfOk, OnOk, length, string_bytes};
+ghost use Rattle.std.specs.List.{flat_map};
+ghost use Rattle.tg_entries.specs.Texts.{end_text};
+ghost use Rattle.tg_keep.specs.Lines.{texts_after};
+ghost use Rattle.tg_found.specs.Kept.{begins_with_digit, ended_line, entries_in, kept_text, later_texts};
 
 use std::alloc::{AllocError, Global};
 use tg_entries::VERSION;
@@ -20,15 +22,27 @@ pub(crate) fn kept_text(alloc: Global, file: &[u8]) -> Result<Vec<u8>, AllocErro
 }
 
 // Adds the texts of a file's lines after the first. Returns how many of them are entries.
-fn add_lines(text: &mut Vec<u8>, file: &[u8]) -> Result<usize, AllocError> {
-    let mut reader = LineReader::new(file);
-    let _ = reader.next();
+fn add_lines(text: &mut Vec<u8>, file: &[u8]) -> Result<usize, AllocError>
+    ensures added { OnOk result (text.new.items ≡ text.old.items ++ flat_map ended_line (later_texts file.now)) }
+    ensures entries { IfOk result (λ entries. entries ≡ entries_in file.now) }
+{
+    let mut reader = after_first(file);
     let mut entries = 0;
     while let Some(line) = reader.next() {
         add_line(text, line)?;
         entries += usize::from(begins_with_digit(line));
     }
     Ok(entries)
+}
+
+// A reader of a file's lines after the first.
+fn after_first(file: &[u8]) -> LineReader
+    ensures texts { later_texts file.now ≡ texts_after result.sum.digits result.left.now }
+    ensures fits { length result.left.now ≤ length file.now }
+{
+    let mut reader = LineReader::new(file);
+    let _ = reader.next();
+    reader
 }
 
 // Adds a line with its line feed.

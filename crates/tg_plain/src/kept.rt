@@ -20,8 +20,8 @@ pub(crate) struct KeptFile<'a> {
 }
 
 impl KeptFile<'_> {
-    /// The history that the file says, up to its last whole line. An end that was cut off is reported on standard error.
-    /// `Kept` if the file isn't read, and then standard error says why.
+    /// The history that the file says, up to its last whole line. An end that was cut off is reported on standard
+    /// error. `Kept` if the file isn't read, and then standard error says why.
     pub(crate) fn history<R: AllocGlobal + Eprint + Files>(
         self,
         rt: &R,

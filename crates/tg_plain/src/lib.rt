@@ -1,9 +1,9 @@
 //! Runs the lines of a script on the plain graph of `tg_model`, without heap, journal and collection. Or replays the
 //! text of a history.
 //!
-//! An [`InputText`] is what a program reads, which is a script or a history. It comes from standard input, or from a kept
-//! file that the words of the command line name. `tg_found` reads the bytes of a kept file. [`last_picture`] is the
-//! picture of the graph after a history.
+//! An [`InputText`] is what a program reads, which is a script or a history. It comes from standard input, or from a
+//! kept file that the words of the command line name. `tg_found` reads the bytes of a kept file. [`last_picture`] is
+//! the picture of the graph after a history.
 //!
 //! A [`Script`] has the lines of a reader up to the first fault in its bytes. It also has what they run on, which is
 //! workers, a limit of vertices and a stock. It is read as `tgstore` reads it, in bounded memory. [`PlainRun::open`] is

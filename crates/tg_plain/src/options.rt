@@ -68,8 +68,8 @@ pub const KEPT: Choice = Choice {
     value: "FILE",
     parser: ValueParser::String,
     needs: &[],
-    help: "Reads the history of the kept file FILE, up to its last whole line [default: reads standard
-input]",
+    help: "Reads the history of the kept file FILE, up to its last whole line [default:
+standard input]",
 };
 
 /// What a script runs on, and where a program reads it.

@@ -5,8 +5,8 @@
 //! This crate has the command line and the answers.
 //!
 //! With the names of kept files it reads these files, each by itself. `tg_keep` says what the lines of a kept file are.
-//! `tg_found` says which text they are, and has the texts of faults. `kept` audits the bytes of a kept file, and has the theorem of this crate. `files` reads a file by its name, and
-//! prints the outcome.
+//! `tg_found` says which text they are, and has the texts of faults. `kept` audits the bytes of a kept file, and has
+//! the theorem of this crate. `files` reads a file by its name, and prints the outcome.
 #![tactic(auto)]
 
 mod files;
