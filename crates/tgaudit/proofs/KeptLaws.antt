@@ -5,8 +5,7 @@ use mir.Val.{bool_byte}
 use Rattle.std.specs.List.{count_by, flat_map}
 use Rattle.std.proofs.Math.Seq.{take-append_seam}
 use Rattle.std.proofs.lemmas.List.{append-nil, append_assoc, length-append}
-use Rattle.std.proofs.lemmas.List.Concat.{flat_map-append}
-use Rattle.std.proofs.lemmas.List.Sums.{sum_by-append, sum_by-cons}
+use Rattle.std.proofs.lemmas.List.Sums.{sum_by-cons}
 use Rattle.tg_entries.specs.Read.{AuditedText, HasRead}
 use Rattle.tg_keep.specs.Lines.{file_texts, first_sum, texts_after, whole_lines}
 use Rattle.tg_keep.specs.Reads.{ReadsLine}

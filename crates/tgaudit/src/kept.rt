@@ -1,5 +1,5 @@
 //! An audit of the bytes of a kept file.
-ghost use Rattle.std.specs.Prelude.{◌≡◌, ◌<◌, ◌++◌, [], List, ℕ, Some, IsTrue, IfOk, IfErr, OnOk, length, string_bytes};
+ghost use Rattle.std.specs.Prelude.{◌≡◌, ◌<◌, ◌++◌, [], List, ℕ, Some, IsTrue, IfOk, IfErr, OnOk, length};
 ghost use Rattle.std.specs.List.{flat_map};
 ghost use Rattle.tg_entries.specs.Read.{HasRead};
 ghost use Rattle.tg_entries.specs.Texts.{IsAudited, end_text};

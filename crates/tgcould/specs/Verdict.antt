@@ -10,7 +10,7 @@ use Rattle.tg_could.specs.Turns.{NeverHolds}
 use Rattle.tg_plain.specs.declared.options.PlainOptions.{PlainOptions}
 use Rattle.tg_plain.specs.declared.outcome.Outcome.{Outcome}
 use Rattle.tg_plain.specs.declared.refused.RefusedLine.{RefusedLine}
-use Rattle.tg_plain.specs.Past.{IsLeftBy}
+use Rattle.tg_plain.specs.Past.{IsGiven, IsLeftBy}
 use Rattle.tgcould.specs.declared.options.TheConstants.{ALLOW_DENIED, NEVER}
 use Rattle.tgcould.specs.declared.query.Query.{Query}
 use Rattle.tgcould.specs.declared.query.Query.TheVariants.{Hold, Who, What}
@@ -77,3 +77,13 @@ pub record IsVerdict (options : PlainOptions) (matches : ArgMatches) (remaining 
   pub is_supposed : IsSupposed matches supposed
   pub kept : status ≡ 0 → AreKept matches supposed outcome.picture
   pub denied : (status ≡ 3) ↔ FailsPolicies matches outcome.refused.items
+
+-- The verdict is about what the words give to read: the text that a kept file says, if the words name a kept file, or else what a
+-- reader has.
+pub record IsVerdictOnGiven {Reader : Type 0} (remaining : Reader → Option (List ℕ)) (matches : ArgMatches) (status : ℕ) : Type 0 where
+  pub options : PlainOptions
+  pub known : Option (List ℕ)
+  pub stock : SaysStock matches options
+  pub kept : SaysKept matches options
+  pub given : IsGiven remaining options.kept known
+  pub verdict : IsVerdict options matches known status

@@ -11,10 +11,8 @@
 //! has the exit status.
 #![tactic(auto)]
 
-ghost use Rattle.std.specs.Prelude.{◌≡◌, ◌⊎◌, ℕ, List, Option, IfOk};
-ghost use Rattle.tg_plain.specs.declared.options.PlainOptions.{PlainOptions};
-ghost use Rattle.tg_plain.specs.Past.{IsGiven};
-ghost use Rattle.tgcould.specs.Verdict.{IsVerdict, SaysKept, SaysStock};
+ghost use Rattle.std.specs.Prelude.{◌≡◌, ◌⊎◌, IfOk};
+ghost use Rattle.tgcould.specs.Verdict.{IsVerdictOnGiven};
 
 mod answers;
 mod ask;
@@ -35,7 +33,7 @@ use options::COMMAND_LINE;
 use std::fs::Files;
 use std::process::ExitCode;
 use supposed::Supposed;
-use tg_plain::{PlainFault, Program, obey, read_options};
+use tg_plain::{PlainFault, Program, obey};
 use verdict::status_of;
 
 fn main(rt: HostRuntime) -> ExitCode {
@@ -50,16 +48,13 @@ impl<R: AllocGlobal + Print + Eprint + Input + Files> Program<R> for Asking {
     // The status is 2 if the words aren't accepted. If it is 0, all policies are kept. It is 3 exactly if there is a
     // policy, no line may be denied, and a line of the script was denied or refused.
     fn run(&self, rt: &R, matches: &ArgMatches) -> Result<u8, PlainFault>
-        ensures { IfOk result (λ status. (status ≡ 2) ⊎ ((options : PlainOptions) × (known : Option (List ℕ)) × SaysStock matches.now options × SaysKept matches.now options
-            × IsGiven R.Reader.remaining options.kept known × IsVerdict options matches.now known status)) }
+        ensures { IfOk result (λ status. (status ≡ 2) ⊎ IsVerdictOnGiven R.Reader.remaining matches.now status) }
     {
         if !are_accepted(rt, matches) {
             return Ok(2);
         }
         match Supposed::read(rt, rt.alloc(), matches)? {
-            Some(supposed) if is_asked(rt, matches) => {
-                status_of(rt, matches, &supposed, read_options(matches))
-            }
+            Some(supposed) if is_asked(rt, matches) => status_of(rt, matches, &supposed),
             _ => Ok(2),
         }
     }

@@ -4,7 +4,7 @@ ghost use Rattle.std.specs.List.{All};
 ghost use Rattle.tg_plain.specs.Past.{IsGiven};
 ghost use Rattle.tgcould.specs.Policies.{IsKeptPolicy, texts_of};
 ghost use Rattle.tgcould.specs.Supposed.{IsSupposed};
-ghost use Rattle.tgcould.specs.Verdict.{AreKept, FailsPolicies, IsVerdict};
+ghost use Rattle.tgcould.specs.Verdict.{AreKept, FailsPolicies, IsVerdict, IsVerdictOnGiven};
 
 use crate::answers::Answers;
 use crate::checks::are_made;
@@ -15,16 +15,27 @@ use clap::ArgMatches;
 use std::fs::Files;
 use tg_could::Scene;
 use tg_model::Picture;
-use tg_plain::{Outcome, PlainFault, PlainOptions, RefusedLine};
+use tg_plain::{Outcome, PlainFault, PlainOptions, RefusedLine, read_options};
 
 // The status if a line of the script was denied or refused, and there is a policy that doesn't allow it.
 const REFUSED_LINES: u8 = 3;
 
-/// Answers what is asked on the graph that a script leaves, run with these options, or that a history leaves. The kept
-/// file of the options is read, or else standard input. Reports the script's lines that were denied or refused. Returns
-/// the exit status. If it is 0, all policies are kept. It is 3 exactly if there is a policy, no line may be denied, and
-/// a line was denied or refused.
+/// Answers what is asked on the graph that a script or a history leaves. The words say what is read, and what a script
+/// runs on. Reports the script's lines that were denied or refused. Returns the exit status. If it is 0, all policies
+/// are kept. It is 3 exactly if there is a policy, no line may be denied, and a line was denied or refused.
 pub fn status_of<R: AllocGlobal + Print + Eprint + Input + Files>(
+    rt: &R,
+    matches: &ArgMatches,
+    supposed: &Supposed,
+) -> Result<u8, PlainFault>
+    requires { IsSupposed matches.now supposed.now }
+    ensures { IfOk result (IsVerdictOnGiven R.Reader.remaining matches.now) }
+{
+    status_given(rt, matches, supposed, read_options(matches))
+}
+
+// The exit status with these options. Their kept file is read, or else standard input.
+fn status_given<R: AllocGlobal + Print + Eprint + Input + Files>(
     rt: &R,
     matches: &ArgMatches,
     supposed: &Supposed,
