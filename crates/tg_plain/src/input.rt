@@ -37,7 +37,7 @@ impl InputText {
         program: &str,
         options: PlainOptions,
     ) -> Result<InputText, PlainFault>
-        ensures { IfOk result (λ input. (known : Option (List ℕ)) × IsGiven R.Reader.remaining options.kept known × IfSome known (λ bytes. IsInputOf options.entry bytes input)) }
+        ensures { IfOk result (λ input. (known : Option (List ℕ)) × IsGiven R.Reader.remaining options.entry.kept known × IfSome known (λ bytes. IsInputOf options.entry bytes input)) }
     {
         match options.kept {
             Some(path) => InputText::read_kept(rt, KeptFile { program, path }, options),

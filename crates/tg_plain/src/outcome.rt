@@ -36,7 +36,7 @@ impl Outcome {
         program: &str,
         options: PlainOptions,
     ) -> Result<Outcome, PlainFault>
-        ensures { IfOk result (λ outcome. (known : Option (List ℕ)) × IsGiven R.Reader.remaining options.kept known × IfSome known (λ bytes. IsLeftBy options.entry bytes outcome)) }
+        ensures { IfOk result (λ outcome. (known : Option (List ℕ)) × IsGiven R.Reader.remaining options.entry.kept known × IfSome known (λ bytes. IsLeftBy options.entry bytes outcome)) }
     {
         let input = InputText::given(rt, program, options)?;
         match input {

@@ -42,7 +42,7 @@ fn status_given<R: AllocGlobal + Print + Eprint + Input + Files>(
     options: PlainOptions,
 ) -> Result<u8, PlainFault>
     requires { IsSupposed matches.now supposed.now }
-    ensures { IfOk result (λ status. (known : Option (List ℕ)) × IsGiven R.Reader.remaining options.kept known × IsVerdict options.entry matches.now known status) }
+    ensures { IfOk result (λ status. (known : Option (List ℕ)) × IsGiven R.Reader.remaining options.entry.kept known × IsVerdict options.entry matches.now known status) }
 {
     let Outcome {
         picture,
