@@ -53,11 +53,14 @@ RUNS = [
     Runs("tgcould", [*OPTIONS, "--never", "1 w 2"], SCRIPT + b"1 write 2 5\n7 list\n"),
     Runs("tgcould", ["--ask", "0 w 1"], TEXT),
     Runs("tgcould", ["--as-if", "9 7 w", "--ask", "2 w 7"], PART),
+    Runs("tgcould", ["--kept", "/dev/stdin", "--ask", "1 r 2"], KEPT),
+    Runs("tgcould", ["--kept", "/dev/stdin", "--ask", "1 r 2"], KEPT.replace(b"ok 2", b"ok 3")),
     Runs("tgcould", ["--help"], b""),
     Runs("tgcould", ["--ask"], b""),
     Runs("tgdot", OPTIONS, SCRIPT),
     Runs("tgdot", [*OPTIONS, "--steps", "--from", "2"], SCRIPT),
     Runs("tgdot", [], PART),
+    Runs("tgdot", ["--kept", "/dev/stdin"], KEPT[:-4]),
     Runs("tgdot", ["--unknown"], b""),
 ]
 

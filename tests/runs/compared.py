@@ -69,7 +69,7 @@ def run(row: Row, program: Path, given: bytes, words: Sequence[str] = (), histor
     with tempfile.TemporaryDirectory(prefix="row-") as room, ExitStack() as held:
         empty = Path(room) / "empty"
         if (row.folder / "files").is_dir():
-            shutil.copytree(row.folder / "files", empty)
+            shutil.copytree(row.folder / "files", empty, symlinks=True)
         else:
             empty.mkdir()
         if history is not None:

@@ -1,10 +1,10 @@
 #!/usr/bin/env python3
 """tests/runs/kept.py [--check]
 
-Writes the kept files of the rows of tests/runs/audit whose names begin with kept_: for each row the folder files. Each is
-made from one small history, by zlib's CRC-32 and with no code of the store. The texts that tgaudit has to write beside
-them are stored by hand. With --check it compares the stored files with those that it makes, and writes nothing. The
-last line is 'kept: N files'."""
+Writes the kept files of the rows of tests/runs/audit, tests/runs/could and tests/runs/dot whose names begin with kept_:
+for each row the folder files. Each is made from one of two small histories, by zlib's CRC-32 and with no code of the
+store. The texts that tgaudit, tgcould and tgdot have to write beside them are stored by hand. With --check it compares
+the stored files with those that it makes, and writes nothing. The last line is 'kept: N files'."""
 import sys
 import zlib
 from collections.abc import Iterable
@@ -17,6 +17,10 @@ OPENING = (b"opening 2 1000000", b"worker c0", b"worker c0", b"edge 0 1 rw")
 # The batches of a run of three entries, and the two marks by which a close ends it.
 BATCHES = ((FIRST,), OPENING, (b"0 create r c0 = ok 2",), (b"0 write 1 7 = ok", b"0 read 1 = ok 7"))
 MARKS = ((b"entries 3",), (b"entries 3",))
+# The batches of a run whose last entry hands a right on. Two more batches end it, which are marks.
+GRANTING = (b"opening 2 1000000", b"worker c0", b"worker c0", b"edge 0 1 g")
+GRANTS = ((FIRST,), GRANTING, (b"0 create rw c0 = ok 2",), (b"0 grant 1 2 r = ok",))
+GRANT_MARKS = ((b"entries 2",), (b"entries 2",))
 
 
 def kept(batches: Iterable[Iterable[bytes]]) -> bytes:
@@ -30,6 +34,7 @@ def kept(batches: Iterable[Iterable[bytes]]) -> bytes:
 
 
 OPEN, CLOSED = kept(BATCHES), kept(BATCHES + MARKS)
+GRANTED, GRANTED_CLOSED = kept(GRANTS), kept(GRANTS + GRANT_MARKS)
 
 
 def line(number: int, file: bytes = CLOSED) -> int:
@@ -48,12 +53,12 @@ def reordered(*numbers: int) -> bytes:
     return b"".join(lines[number - 1] for number in numbers)
 
 
-def flipped(place: int) -> bytes:
-    """The closed file with the lowest bit of one byte flipped."""
-    return altered(place, bytes([CLOSED[place] ^ 1]))
+def flipped(place: int, file: bytes = CLOSED) -> bytes:
+    """The file with the lowest bit of one byte flipped."""
+    return file[:place] + bytes([file[place] ^ 1]) + file[place + 1 :]
 
 
-FILES = {
+AUDITED = {
     "kept_closed": {"store": CLOSED},
     "kept_in_use": {"store": OPEN + bytes(4096)},
     "kept_cut_at_the_end_of_a_batch": {"store": OPEN},
@@ -102,6 +107,39 @@ FILES = {
     "kept_an_option_after_a_file": {"store": CLOSED},
     "kept_a_file_after_a_front": {"store": CLOSED},
 }
+ASKED = {
+    "kept_closed": {"store": GRANTED_CLOSED},
+    "kept_in_use": {"store": GRANTED + bytes(4096)},
+    "kept_an_end_that_is_cut_off": {"store": GRANTED[:-1] + bytes(100)},
+    "kept_an_end_that_is_cut_off_has_a_policy": {"store": GRANTED[:-4]},
+    "kept_marks_between_entries": {"store": kept(GRANTS[:3] + ((b"entries 1",), (b"entries 1",)) + GRANTS[3:] + GRANT_MARKS)},
+    "kept_a_policy_that_is_broken": {"store": GRANTED_CLOSED},
+    "kept_and_a_script_on_standard_input": {"store": GRANTED_CLOSED},
+    "kept_with_its_own_numbers": {"store": GRANTED_CLOSED},
+    "kept_with_other_workers": {"store": GRANTED_CLOSED},
+    "kept_with_a_stock": {"store": GRANTED_CLOSED},
+    "kept_by_a_link": {"a_store": GRANTED_CLOSED},
+    "kept_damage_in_the_middle": {"store": flipped(line(6, GRANTED_CLOSED) + 4, GRANTED_CLOSED)},
+    "kept_a_wrong_sum": {"store": flipped(line(8, GRANTED_CLOSED) - 3, GRANTED_CLOSED)},
+    "kept_a_reply_that_is_none": {"store": kept((*GRANTS[:3], (b"0 grant 1 2 a = ok",)))},
+    "kept_a_line_that_is_none": {"store": kept((*GRANTS[:3], (b"0 grants 1 2 r = ok",)))},
+    "kept_a_mark_with_another_number": {"store": kept(GRANTS + ((b"entries 1",), (b"entries 1",)))},
+    "kept_an_opening_that_is_cut_off": {"store": kept(GRANTS[:1] + (GRANTING[:2],))},
+    "kept_another_version": {"store": kept(((b"kovshenul kept 2",),) + GRANTS[1:])},
+    "kept_another_programs_file": {"store": b"SQLite format 3\0" + bytes(range(256))},
+    "kept_a_text": {"store": b"kovshenul entries 1\nopening 1 9\nworker c0\nentries 0\n"},
+    "kept_an_empty_file": {"store": b""},
+    "kept_a_bad_question": {"store": GRANTED_CLOSED},
+}
+DRAWN = {
+    "kept_closed": {"store": GRANTED_CLOSED},
+    "kept_an_end_that_is_cut_off": {"store": GRANTED[:-4]},
+    "kept_damage_in_the_middle": {"store": flipped(line(6, GRANTED_CLOSED) + 4, GRANTED_CLOSED)},
+    "kept_another_version": {"store": kept(((b"kovshenul kept 2",),) + GRANTS[1:])},
+    "kept_steps": {"store": GRANTED_CLOSED},
+    "kept_with_a_stock": {"store": GRANTED_CLOSED},
+}
+FILES = {f"{group}/{row}": files for group, rows in (("audit", AUDITED), ("could", ASKED), ("dot", DRAWN)) for row, files in rows.items()}
 
 
 def main() -> int:
@@ -114,7 +152,7 @@ def main() -> int:
         return 2
     wrong = count = 0
     for row, files in FILES.items():
-        folder = HERE / "audit" / row / "files"
+        folder = HERE / row / "files"
         for name, file in files.items():
             count += 1
             if sys.argv[1:]:

@@ -160,6 +160,7 @@ NAMED = {
     ("tg_entries/src/stream.rt", "skip_line", "u64::MAX"): "a piece of the line each",
     ("tgaudit/src/kept.rt", "audit_rest", "while let Some(text)=reader.next()"): "a line of the file each",
     ("tg_kept/src/read.rt", "add_lines", "while let Some(line)=reader.next()"): "a line of the file each",
+    ("tg_found/src/text.rt", "add_lines", "while let Some(line)=reader.next()"): "a line of the file each",
     ("tg_plain/src/script.rt", "add_lines", "while let Some(line)=reading.next(source,&mut sink)?"): "a line of the reader each",
     ("tg_past/src/edges.rt", "read", "while left>0"): "an entry each",
     ("tg_plain/src/input.rt", "read_front", "u64::MAX"): "a byte of the mark each",

@@ -1,5 +1,7 @@
--- The text of a history: its first bytes, where it begins, and what it leaves.
-use Rattle.std.proofs.Common.{◌≡◌, ◌∙◌, ℕ, List, [], ◌++◌, drop, Option, Some, None, Vec, Global, refl, sym, ap, subst}
+-- The text of a history: where it comes from, its first bytes, where it begins, and what it leaves.
+use Rattle.std.proofs.Common.{◌≡◌, ◌∙◌, ℕ, List, [], ◌++◌, drop, Option, Some, None, Result, Ok, Err, IfOk, OnOk, Vec, Global, refl, sym, ap, subst}
+use Rattle.std.specs.Prelude.{IfSome}
+use Rattle.std.specs.Borrow.{Bor}
 use Rattle.std.specs.Fmt.{option_append}
 use Rattle.std.specs.Io.KnownBytes.{Consumes}
 use Rattle.tg_model.specs.Graph.{ProtectionGraph, IsSound}
@@ -18,7 +20,45 @@ use Rattle.tg_entries.specs.Kept.{BeginsAt, IsTextOf}
 use Rattle.tg_entries.specs.Pieces.{FetchesPiece}
 use Rattle.tg_entries.specs.Texts.{TextStart, Opened, Shown, Joined, IsTextStart, graph_of_origin}
 use Rattle.tg_plain.specs.Inner.Past.{AfterLegal}
-use Rattle.tg_plain.specs.Past.{IsLastPicture}
+use Rattle.tg_found.specs.Kept.{kept_text}
+use Rattle.tg_keep.specs.Opened.{MayOpen}
+use Rattle.tg_plain.specs.Past.{IsGiven, IsLastPicture}
+
+-- ---- where it comes from
+
+if_known : {X : Type 0} (known : Option X) (P : X → Type 0) → ((x : X) → known ≡ Some x → P x) → IfSome known P
+if_known None P all = tt
+if_known (Some x) P all = all x refl
+
+-- a reader is read where no kept file is named
+pub reads_reader : {Reader T E : Type 0} (remaining : Reader → Option (List ℕ)) (reader : Reader) (kept : Option (Bor (List ℕ))) (result : Result T E) (P : List ℕ → T → Type 0) → kept ≡ None →
+    ((bytes : List ℕ) → remaining reader ≡ Some bytes → IfOk result (P bytes)) → IfOk result (λ x. (known : Option (List ℕ)) × IsGiven remaining kept known × IfSome known (λ bytes. P bytes x))
+reads_reader remaining reader kept (Ok x) P none all =
+    (remaining reader, subst (λ k. IsGiven remaining k (remaining reader)) (sym none) (reader, refl), if_known (remaining reader) (λ bytes. P bytes x) all)
+reads_reader remaining reader kept (Err e) P none all = tt
+
+-- a kept file is read where it is named
+pub reads_file : {Reader T E : Type 0} (remaining : Reader → Option (List ℕ)) (kept : Option (Bor (List ℕ))) (path : Bor (List ℕ)) (result : Result T E) (P : List ℕ → T → Type 0) → kept ≡ Some path →
+    IfOk result (λ x. (file : List ℕ) × MayOpen file × P (kept_text file) x) → IfOk result (λ x. (known : Option (List ℕ)) × IsGiven remaining kept known × IfSome known (λ bytes. P bytes x))
+reads_file remaining kept path (Ok x) P named read =
+    (Some (kept_text read.0), subst (λ k. IsGiven remaining k (Some (kept_text read.0))) (sym named) (read.0, read.1, refl), read.2)
+reads_file remaining kept path (Err e) P named read = tt
+
+if_some_step : (known : Option (List ℕ)) (P Q : List ℕ → Type 0) → IfSome known P → ((bytes : List ℕ) → P bytes → Q bytes) → IfSome known Q
+if_some_step None P Q holds step = tt
+if_some_step (Some bytes) P Q holds step = step bytes holds
+
+-- what is made of what was read is of the same bytes
+pub given_step : {Reader T E : Type 0} (remaining : Reader → Option (List ℕ)) (kept : Option (Bor (List ℕ))) (known : Option (List ℕ)) (result : Result T E) (P : List ℕ → Type 0) (Q : List ℕ → T → Type 0) →
+    IsGiven remaining kept known → IfSome known P → ((bytes : List ℕ) → P bytes → IfOk result (Q bytes)) → IfOk result (λ x. (known : Option (List ℕ)) × IsGiven remaining kept known × IfSome known (λ bytes. Q bytes x))
+given_step remaining kept known (Ok x) P Q given holds step = (known, given, if_some_step known P (λ bytes. Q bytes x) holds step)
+given_step remaining kept known (Err e) P Q given holds step = tt
+
+-- a file that may be opened, and what it says
+pub of_file : {T E : Type 0} (result : Result T E) (file : List ℕ) (P : List ℕ → T → Type 0) → IfOk result (P (kept_text file)) → OnOk result (MayOpen file) →
+    IfOk result (λ x. (file : List ℕ) × MayOpen file × P (kept_text file) x)
+of_file (Ok x) file P says opens = (file, opens, says)
+of_file (Err e) file P says opens = tt
 
 -- ---- the first bytes
 

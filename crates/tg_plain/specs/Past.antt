@@ -1,5 +1,6 @@
 -- What a program reads, which is a script or the text of a history, and what the history leaves.
-use Rattle.std.specs.Prelude.{◌≡◌, ◌⊎◌, ℕ, false, List, [], Option, None, IfSome, length}
+use Rattle.std.specs.Prelude.{◌≡◌, ◌⊎◌, ℕ, false, List, [], Option, Some, None, IfSome, length}
+use Rattle.std.specs.Borrow.{Bor}
 use Rattle.tg_model.specs.Picture.{Shown as ShownPicture, IsPictureOf}
 use Rattle.tg_journal.specs.declared.entry.Entry.{Entry}
 use Rattle.tg_journal.specs.History.{graph_after}
@@ -7,6 +8,8 @@ use Rattle.tg_entries.specs.declared.kept.HistoryStart.{HistoryStart}
 use Rattle.tg_entries.specs.declared.kept.HistoryStart.TheVariants.{Opened, Shown}
 use Rattle.tg_entries.specs.Kept.{IsTextOf}
 use Rattle.tg_entries.specs.Texts.{TextStart, IsHistory, graph_of_origin}
+use Rattle.tg_found.specs.Kept.{kept_text}
+use Rattle.tg_keep.specs.Opened.{MayOpen}
 use Rattle.tg_plain.specs.declared.given.GivenOptions.{GivenOptions}
 use Rattle.tg_plain.specs.declared.input.InputText.{InputText}
 use Rattle.tg_plain.specs.declared.input.InputText.TheVariants.{Lines, Entries}
@@ -28,6 +31,12 @@ pub record AgreesWith (given : GivenOptions) (start : HistoryStart) : Type 0 whe
   pub workers : IfSome given.workers (λ number. number ≡ workers_at start)
   pub max_vertices : IfSome given.max_vertices (λ number. number ≡ limit_at start)
   pub no_stock : given.has_stock ≡ false
+
+-- What a program reads, if its bytes are known. Without the name of a kept file these are the bytes of a reader. With a name it is
+-- the text that the bytes of a kept file say, which may be opened.
+abbrev pub IsGiven : {Reader : Type 0} → (Reader → Option (List ℕ)) → Option (Bor (List ℕ)) → Option (List ℕ) → Type 0
+IsGiven {Reader} remaining None known = (reader : Reader) × (known ≡ remaining reader)
+IsGiven {Reader} remaining (Some path) known = (file : List ℕ) × MayOpen file × (known ≡ Some (kept_text file))
 
 -- the bytes are those of the script, as far as its fault, or the text of the history
 abbrev pub IsInputOf : PlainOptions → List ℕ → InputText → Type 0

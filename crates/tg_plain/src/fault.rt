@@ -4,6 +4,7 @@ use crate::bad_stock::StockReason;
 use std::alloc::AllocError;
 use std::io;
 use tg_entries::TextFault;
+use tg_found::KeptFault;
 use tg_model::OpeningFault;
 use thiserror::Error;
 
@@ -61,6 +62,9 @@ pub enum PlainFault {
     /// The text isn't that of a legal history, or reading it failed.
     #[error(transparent)]
     Text(#[from] TextFault),
+    /// The kept file isn't read. Standard error says so already, with the name of the file.
+    #[error("{0}")]
+    Kept(KeptFault),
     /// The option gives another number than the history.
     #[error("--{option} {number}: the history says {own}, so leave --{option} out")]
     OtherNumber {

@@ -1,13 +1,17 @@
 //! What a program reads, which is a script or the text of a history.
-ghost use Rattle.std.specs.Prelude.{◌≡◌, ◌≤◌, ◌++◌, [], ℕ, List, Some, IfOk, OnOk, length, take};
+ghost use Rattle.std.specs.Prelude.{◌≡◌, ◌≤◌, ◌++◌, [], ℕ, List, Option, Some, IfOk, IfSome, OnOk, length, take};
 ghost use Rattle.tg_entries.specs.Kept.{IsTextOf};
 ghost use Rattle.tg_entries.specs.Pieces.{FetchesPiece};
-ghost use Rattle.tg_plain.specs.Past.{IsInputOf};
+ghost use Rattle.tg_found.specs.Kept.{kept_text};
+ghost use Rattle.tg_keep.specs.Opened.{MayOpen};
+ghost use Rattle.tg_plain.specs.Past.{IsGiven, IsInputOf};
 
 use crate::fault::PlainFault;
+use crate::kept::KeptFile;
 use crate::options::PlainOptions;
 use crate::script::{BLOCK, Script};
 use std::alloc::{AllocError, Global};
+use std::fs::Files;
 use std::io::{self, BufReader, Cursor, ErrorKind, Read};
 use tg_entries::{History, read_history};
 
@@ -24,6 +28,36 @@ pub enum InputText {
 }
 
 impl InputText {
+    /// What the words of the command line give this program to read. If the options name a kept file, it is the history
+    /// that the file says, up to its last whole line. The numbers of the history are those of the options that are
+    /// given. `Kept` if the file isn't read, and then standard error says why. Without a kept file it is what standard
+    /// input has, and fails as [`InputText::read`] does.
+    pub fn given<R: AllocGlobal + Input + Eprint + Files>(
+        rt: &R,
+        program: &str,
+        options: PlainOptions,
+    ) -> Result<InputText, PlainFault>
+        ensures { IfOk result (λ input. (known : Option (List ℕ)) × IsGiven R.Reader.remaining options.entry.kept known × IfSome known (λ bytes. IsInputOf options.entry bytes input)) }
+    {
+        match options.kept {
+            Some(path) => InputText::read_kept(rt, KeptFile { program, path }, options),
+            None => InputText::read(rt.alloc(), options, rt.reader()),
+        }
+    }
+
+    // The history of the kept file, if the options agree with it.
+    fn read_kept<R: AllocGlobal + Eprint + Files>(
+        rt: &R,
+        file: KeptFile,
+        options: PlainOptions,
+    ) -> Result<InputText, PlainFault>
+        ensures { IfOk result (λ input. (file : List ℕ) × MayOpen file × IsInputOf options.entry (kept_text file) input) }
+    {
+        let history = file.history(rt)?;
+        options.given.check(&history)?;
+        Ok(InputText::Entries(history))
+    }
+
     /// What the reader has. It is a history if the text begins with `kovshenul `, and else a script, which is to be run
     /// with these options. Fails as [`Script::read`] does. A text of a history has to be whole and legal, and its
     /// numbers are those of the options that are given. `Text` names its first line at fault.

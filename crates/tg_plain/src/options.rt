@@ -61,7 +61,18 @@ pub const STOCK: Choice = Choice {
     help: "Names the boxes that new vertices take, as --stock of tgstore does [default: none]",
 };
 
-/// What a script runs on.
+/// A kept file, whose history is read in the place of standard input.
+pub const KEPT: Choice = Choice {
+    name: "kept",
+    action: ArgAction::Set,
+    value: "FILE",
+    parser: ValueParser::String,
+    needs: &[],
+    help: "Reads the history of the kept file FILE, up to its last whole line [default:
+standard input]",
+};
+
+/// What a script runs on, and where a program reads it.
 #[derive(Clone, Copy)]
 pub struct PlainOptions<'a> {
     /// How many workers there are at first, from 1 to 64.
@@ -70,20 +81,24 @@ pub struct PlainOptions<'a> {
     pub max_vertices: u64,
     /// The text of the stock, as it was written, or `None` if boxes are cells without end.
     pub stock: Option<&'a str>,
+    /// The name of the kept file that is read, or `None` if standard input is.
+    pub kept: Option<&'a str>,
     /// What the words of the command line say of these.
     pub given: GivenOptions,
 }
 
-/// What the words say of workers and vertices, or else their defaults, and of the stock. If they say nothing of it,
-/// boxes are cells without end.
+/// What the words say of workers and vertices, or else their defaults, of the stock, and of a kept file. If they say
+/// nothing of a stock, boxes are cells without end.
 pub fn read_options<'a>(matches: &ArgMatches<'a>) -> PlainOptions<'a>
     ensures stock { option_map (λ text. text.now) result.stock ≡ first_value (found_of matches.now) (codes "stock") }
+    ensures kept { option_map (λ text. text.now) result.kept ≡ first_value (found_of matches.now) (codes "kept") }
 {
     let given = given_options(matches);
     PlainOptions {
         workers: given.workers.unwrap_or(2),
         max_vertices: given.max_vertices.unwrap_or(1_000_000),
         stock: matches.get_str("stock"),
+        kept: matches.get_str("kept"),
         given,
     }
 }

@@ -1,8 +1,8 @@
 //! What a script or a history leaves.
-ghost use Rattle.std.specs.Prelude.{◌≡◌, ℕ, List, Some, None, IfOk, OnOk};
+ghost use Rattle.std.specs.Prelude.{◌≡◌, ℕ, List, Option, Some, None, IfOk, IfSome, OnOk};
 ghost use Rattle.tg_entries.specs.Kept.{IsTextOf};
 ghost use Rattle.tg_plain.specs.Lines.{IsOutcome, boxes_left as left_of, boxes_of};
-ghost use Rattle.tg_plain.specs.Past.{IsLeftBy, IsPastOf};
+ghost use Rattle.tg_plain.specs.Past.{IsGiven, IsLeftBy, IsPastOf};
 
 use crate::fault::PlainFault;
 use crate::input::InputText;
@@ -12,7 +12,7 @@ use crate::refused::RefusedLine;
 use crate::run::PlainRun;
 use crate::script::Script;
 use std::alloc::Global;
-use std::io::Read;
+use std::fs::Files;
 use tg_entries::History;
 use tg_model::Picture;
 
@@ -29,19 +29,19 @@ pub struct Outcome {
 }
 
 impl Outcome {
-    /// What the script leaves that the reader has, run with these options. Or what the history leaves whose text the
-    /// reader has. Fails as [`InputText::read`], [`Outcome::of`] and [`Outcome::of_history`] do.
-    pub fn read<R: Read + Drop>(
-        alloc: Global,
+    /// What the script or the history leaves that the words of the command line give this program, run with these
+    /// options. Fails as [`InputText::given`], [`Outcome::of`] and [`Outcome::of_history`] do.
+    pub fn given<R: AllocGlobal + Input + Eprint + Files>(
+        rt: &R,
+        program: &str,
         options: PlainOptions,
-        reader: R,
     ) -> Result<Outcome, PlainFault>
-        ensures { (bytes : List ℕ) → R.remaining reader ≡ Some bytes → IfOk result (IsLeftBy options.entry bytes) }
+        ensures { IfOk result (λ outcome. (known : Option (List ℕ)) × IsGiven R.Reader.remaining options.entry.kept known × IfSome known (λ bytes. IsLeftBy options.entry bytes outcome)) }
     {
-        let input = InputText::read(alloc, options, reader)?;
+        let input = InputText::given(rt, program, options)?;
         match input {
             InputText::Lines(script) => Outcome::of(&script),
-            InputText::Entries(history) => Outcome::of_history(alloc, &history),
+            InputText::Entries(history) => Outcome::of_history(rt.alloc(), &history),
         }
     }
 

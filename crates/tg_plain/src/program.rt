@@ -15,7 +15,8 @@ pub trait Program<R> {
 }
 
 /// Has the program do what the words of its command line ask for, or prints its help, or what is wrong with the words.
-/// Each word has to be text. The exit status.
+/// Each word has to be text. A fault is printed, but for one of a kept file, which was printed where the file was read.
+/// The exit status.
 pub fn obey<R, P>(rt: &R, line: &CommandLine, program: &P) -> u8
 where
     R: AllocGlobal + Env + Print + Eprint,
@@ -23,6 +24,7 @@ where
 {
     match obey_words(rt, line, program) {
         Ok(status) => status,
+        Err(PlainFault::Kept(_)) => 1,
         Err(fault) => {
             let _ = eprintln!(rt; "{}: {fault}", line.name);
             fault.status()

@@ -1,60 +1,56 @@
 -- How the lines of a kept file are audited.
-use Rattle.std.proofs.Common.{◌≡◌, ℕ, ◌+◌, ◌-◌, ◌≤◌, List, [], ◌∷◌, ◌++◌, length, take, refl, sym, ◌∙◌, ap, subst, arith}
+use Rattle.std.proofs.Common.{◌≡◌, ℕ, ◌+◌, ◌-◌, ◌≤◌, Bool, List, [], ◌∷◌, ◌++◌, length, take, drop, refl, sym, ◌∙◌, ap, subst, arith}
 use Rattle.std.specs.Prelude.{sum_by, Option, Some, IfSome, Result, Err, IfErr}
-use Rattle.std.specs.List.{flat_map}
+use mir.Val.{bool_byte}
+use Rattle.std.specs.List.{count_by, flat_map}
 use Rattle.std.proofs.Math.Seq.{take-append_seam}
 use Rattle.std.proofs.lemmas.List.{append-nil, append_assoc, length-append}
-use Rattle.std.proofs.lemmas.List.Concat.{flat_map-append}
-use Rattle.std.proofs.lemmas.List.Sums.{sum_by-append, sum_by-cons}
+use Rattle.std.proofs.lemmas.List.Sums.{sum_by-cons}
 use Rattle.tg_entries.specs.Read.{AuditedText, HasRead}
 use Rattle.tg_keep.specs.Lines.{file_texts, first_sum, texts_after, whole_lines}
 use Rattle.tg_keep.specs.Reads.{ReadsLine}
 use Rattle.tg_keep.proofs.Scanning.{left_shorter, no_more_texts}
-use Rattle.tgaudit.specs.Kept.{IsAfterFirst, IsLineAt, NamesLine, RefusesKept, ended_line, length_in_file}
-use Rattle.tgaudit.specs.declared.kept.KeptFault.{KeptFault}
-use Rattle.tgaudit.specs.declared.kept.KeptFault.TheVariants as fault
+use Rattle.tg_found.specs.Kept.{IsLineAt, RefusesKept, begins_with_digit, ended_line, entries_in, length_in_file}
+use Rattle.tg_found.specs.declared.fault.KeptFault.{KeptFault}
+use Rattle.tg_found.specs.declared.fault.KeptFault.TheVariants as fault
+use Rattle.tg_found.proofs.KeptLaws.{counted_more, longer_text, one_longer}
+use Rattle.tgaudit.specs.Kept.{IsAfterFirst, NamesLine}
 
 -- These lines were audited, of all that came after the first one.
-pub record Walks (file : List ℕ) (begun : AuditedText) (sum0 left0 : List ℕ) (lines byte : ℕ) (audit : AuditedText) (sum left : List ℕ) : Type 0 where
+pub record Walks (file : List ℕ) (begun : AuditedText) (sum0 left0 : List ℕ) (lines byte entries : ℕ) (audit : AuditedText) (sum left : List ℕ) : Type 0 where
   pub done : List (List ℕ)
   pub texts : texts_after sum0 left0 ≡ done ++ texts_after sum left
   pub number : lines ≡ length done + 1
+  pub entries_are : entries ≡ count_by begins_with_digit done
   pub place : byte + length left0 ≡ length file + sum_by length_in_file done
   pub size : byte + length left ≡ length file
   pub few : lines ≤ byte
   pub read : (text : List ℕ) → HasRead text begun → HasRead (text ++ flat_map ended_line done) audit
 
-pub walks_none : (file : List ℕ) (begun : AuditedText) (sum left : List ℕ) (byte : ℕ) → IsAfterFirst file sum left → byte ≡ length file - length left → Walks file begun sum left 1 byte begun sum left
+pub walks_none : (file : List ℕ) (begun : AuditedText) (sum left : List ℕ) (byte : ℕ) → IsAfterFirst file sum left → byte ≡ length file - length left → Walks file begun sum left 1 byte 0 begun sum left
 walks_none file begun sum left byte after is = record {
   done = [];
   texts = refl;
   number = omega arith;
+  entries_are = refl;
   place = omega (arith, is, after.size);
   size = omega (arith, is, after.size);
   few = omega (arith, is, after.size);
   read = λ text has. subst (λ t. HasRead t begun) (sym (append-nil text)) has;
 }
 
-longer_text : (text : List ℕ) (done : List (List ℕ)) (line : List ℕ) → (text ++ flat_map ended_line done) ++ ended_line line ≡ text ++ flat_map ended_line (done ++ line ∷ [])
-longer_text text done line =
-    append_assoc text (flat_map ended_line done) (ended_line line)
-    ∙ ap (λ (l : List ℕ). text ++ (flat_map ended_line done ++ l)) (sym (append-nil (ended_line line)))
-    ∙ ap (λ (l : List ℕ). text ++ l) (sym (flat_map-append ended_line done (line ∷ [])))
-
-one_longer : (done : List (List ℕ)) (line : List ℕ) → sum_by length_in_file (done ++ line ∷ []) ≡ sum_by length_in_file done + (length line + 11)
-one_longer done line = omega (arith, sum_by-append length_in_file done (line ∷ []), sum_by-cons length_in_file line [])
-
-pub walks_more : (file : List ℕ) (begun : AuditedText) (sum0 left0 : List ℕ) (lines byte : ℕ) (audit : AuditedText) (sum left line : List ℕ) (moved : ℕ) (audited : AuditedText) (next after : List ℕ)
-    → Walks file begun sum0 left0 lines byte audit sum left → ReadsLine sum left line next after → moved ≡ length file - length after
-    → ((text : List ℕ) → HasRead text audit → HasRead (text ++ ended_line line) audited)
-    → Walks file begun sum0 left0 (lines + 1) moved audited next after
-walks_more file begun sum0 left0 lines byte audit sum left line moved audited next after so_far reads is passed =
+pub walks_more : (file : List ℕ) (begun : AuditedText) (sum0 left0 : List ℕ) (lines byte entries : ℕ) (audit : AuditedText) (sum left line : List ℕ) (moved one : ℕ) (is_one : Bool) (audited : AuditedText) (next after : List ℕ)
+    → Walks file begun sum0 left0 lines byte entries audit sum left → ReadsLine sum left line next after → moved ≡ length file - length after
+    → is_one ≡ begins_with_digit line → one ≡ bool_byte is_one → ((text : List ℕ) → HasRead text audit → HasRead (text ++ ended_line line) audited)
+    → Walks file begun sum0 left0 (lines + 1) moved (entries + one) audited next after
+walks_more file begun sum0 left0 lines byte entries audit sum left line moved one is_one audited next after so_far reads is same counts passed =
     let done = so_far.done in
     let shorter = left_shorter sum left line next after reads in
     record {
       done = done ++ line ∷ [];
       texts = so_far.texts ∙ ap (λ (l : List (List ℕ)). done ++ l) reads.texts ∙ sym (append_assoc done (line ∷ []) (texts_after next after));
       number = omega (arith, so_far.number, length-append done (line ∷ []));
+      entries_are = omega (arith, so_far.entries_are, counted_more begins_with_digit done line one is_one same counts);
       place = omega (arith, so_far.place, so_far.size, shorter, is, one_longer done line);
       size = omega (arith, so_far.size, shorter, is);
       few = omega (arith, so_far.few, so_far.size, shorter, is);
@@ -62,9 +58,9 @@ walks_more file begun sum0 left0 lines byte audit sum left line moved audited ne
     }
 
 -- a line at fault is the one after those that were audited
-pub fault_at : (file : List ℕ) (begun : AuditedText) (sum0 left0 : List ℕ) (lines byte : ℕ) (audit : AuditedText) (sum left line next after : List ℕ)
-    → Walks file begun sum0 left0 lines byte audit sum left → IsAfterFirst file sum0 left0 → ReadsLine sum left line next after → IsLineAt (lines + 1) byte file
-fault_at file begun sum0 left0 lines byte audit sum left line next after so_far first reads =
+pub fault_at : (file : List ℕ) (begun : AuditedText) (sum0 left0 : List ℕ) (lines byte entries : ℕ) (audit : AuditedText) (sum left line next after : List ℕ)
+    → Walks file begun sum0 left0 lines byte entries audit sum left → IsAfterFirst file sum0 left0 → ReadsLine sum left line next after → IsLineAt (lines + 1) byte file
+fault_at file begun sum0 left0 lines byte entries audit sum left line next after so_far first reads =
     let done = so_far.done in
     let rest : List (List ℕ) = line ∷ texts_after next after in
     let before : List (List ℕ) = first.first ∷ done in
@@ -83,8 +79,8 @@ fault_named file number place (fault.Line line byte why) at names = subst (λ n.
 fault_named file number place (fault.NoOpening lines) at names = absurd names
 
 -- all lines were audited
-module _ (file : List ℕ) (begun : AuditedText) (sum0 left0 : List ℕ) (lines byte : ℕ) (audit : AuditedText) (sum left : List ℕ)
-    (walks : Walks file begun sum0 left0 lines byte audit sum left) (none : whole_lines sum left ≡ []) where
+module _ (file : List ℕ) (begun : AuditedText) (sum0 left0 : List ℕ) (lines byte entries : ℕ) (audit : AuditedText) (sum left : List ℕ)
+    (walks : Walks file begun sum0 left0 lines byte entries audit sum left) (none : whole_lines sum left ≡ []) where
   all_done : texts_after sum0 left0 ≡ walks.done
   all_done = walks.texts ∙ ap (λ (l : List (List ℕ)). walks.done ++ l) (no_more_texts sum left none) ∙ append-nil walks.done
 
@@ -93,6 +89,11 @@ module _ (file : List ℕ) (begun : AuditedText) (sum0 left0 : List ℕ) (lines 
 
   pub all_numbered : IsAfterFirst file sum0 left0 → lines ≡ length (file_texts file)
   all_numbered first = omega (arith, walks.number, ap length first.texts, ap length all_done)
+
+  pub all_entered : IsAfterFirst file sum0 left0 → entries ≡ entries_in file
+  all_entered first =
+      walks.entries_are ∙ ap (count_by begins_with_digit) (sym all_done)
+      ∙ sym (ap (λ (l : List (List ℕ)). count_by begins_with_digit (drop 1 l)) first.texts)
 
 -- the first line of a file was read
 pub after_first : (file sum bytes line next left : List ℕ) → bytes ≡ file → sum ≡ first_sum → ReadsLine sum bytes line next left → IsAfterFirst file next left

@@ -1,13 +1,9 @@
 //! Kept files that are given by their names. They are only read.
 
-use crate::kept::{KeptAudit, KeptFault, audit_kept};
-use crate::lines::{bytes_after, first_words, torn_bytes};
-use crate::words::{
-    OF_A_FIRST_LINE, OF_A_FOLDER, OF_A_MISSING_FILE, OF_A_TEXT, OF_AN_OPENING, OF_ANOTHER_VERSION,
-    OF_DAMAGE, OF_PERMISSION,
-};
+use crate::kept::{KeptAudit, audit_kept};
 use std::fs;
-use std::io::{self, Error, ErrorKind, Write};
+use std::io::{self, Write};
+use tg_found::{KeptFault, TornEnd, UnreadFile, bytes_left_out};
 use tg_keep::{FileFault, FileReport, report_of, whole_front};
 
 /// Audits a kept file, and prints what it has. The exit status.
@@ -21,8 +17,8 @@ pub(crate) fn audit_file(rt: &HostRuntime, path: &str) -> io::Result<u8> {
             print_end(rt, path, file.as_slice(), &audit.report)?;
             Ok(0)
         }
-        Err(fault) => {
-            print_fault(rt, path, file.as_slice(), &fault)?;
+        Err(why) => {
+            print_fault(rt, path, file.as_slice(), why)?;
             Ok(1)
         }
     }
@@ -48,12 +44,12 @@ pub(crate) fn print_front(rt: &HostRuntime, path: &str) -> io::Result<u8> {
 // exit status.
 fn print_undamaged(rt: &HostRuntime, path: &str, file: &[u8], fault: FileFault) -> io::Result<u8> {
     let FileFault::Damaged { .. } = fault else {
-        print_fault(rt, path, file, &KeptFault::File(fault))?;
+        print_fault(rt, path, file, KeptFault::File(fault))?;
         return Ok(1);
     };
     let front = whole_front(file);
     rt.stdout().write_all(front)?;
-    let left_out = torn_bytes(bytes_after(file, front.len()));
+    let left_out = bytes_left_out(file, front.len());
     eprintln!(rt; "tgaudit: {path}: {fault}; bytes left out: {left_out}")?;
     Ok(1)
 }
@@ -63,22 +59,9 @@ fn read_file(rt: &HostRuntime, path: &str) -> io::Result<Option<Vec<u8>>> {
     match fs::read(rt, path) {
         Ok(file) => Ok(Some(file)),
         Err(error) => {
-            eprintln!(rt; "tgaudit: {path}: {error}")?;
-            if let Some(advice) = advice_on_error(&error) {
-                eprintln!(rt; "tgaudit: {advice}")?;
-            }
+            print_fault(rt, path, &[], KeptFault::File(FileFault::Io(error)))?;
             Ok(None)
         }
-    }
-}
-
-// What would be right in the place of a name that can't be read.
-fn advice_on_error(error: &Error) -> Option<&'static str> {
-    match error.kind() {
-        ErrorKind::NotFound => Some(OF_A_MISSING_FILE),
-        ErrorKind::PermissionDenied => Some(OF_PERMISSION),
-        ErrorKind::IsADirectory => Some(OF_A_FOLDER),
-        _ => None,
     }
 }
 
@@ -104,64 +87,18 @@ fn print_end(rt: &HostRuntime, path: &str, file: &[u8], report: &FileReport) -> 
 
 // Prints which bytes after the lines are no whole line, if there are some.
 fn print_torn(rt: &HostRuntime, path: &str, file: &[u8], report: &FileReport) -> io::Result<()> {
-    let at = report.lines.len();
-    let torn = torn_bytes(bytes_after(file, at));
-    if torn == 0 {
-        return Ok(());
+    match TornEnd::of(file, report) {
+        Some(end) => eprintln!(rt; "tgaudit: {path}: {end}"),
+        None => Ok(()),
     }
-    let line = report.count.saturating_add(1);
-    eprintln!(rt; "tgaudit: {path}: line {line}, at byte {at}, was cut off; bytes left out: {torn}")
 }
 
 // Prints why the file doesn't pass, and what would be right.
-fn print_fault(rt: &HostRuntime, path: &str, file: &[u8], fault: &KeptFault) -> io::Result<()> {
-    match fault {
-        KeptFault::File(FileFault::NotKept) => print_other(rt, path, file),
-        fault => {
-            eprintln!(rt; "tgaudit: {path}: {fault}")?;
-            match advice_on(fault) {
-                Some(advice) => eprintln!(rt; "tgaudit: {advice}"),
-                None => Ok(()),
-            }
-        }
-    }
-}
-
-// What would be right in the place of a fault.
-fn advice_on(fault: &KeptFault) -> Option<&'static str> {
-    match fault {
-        KeptFault::File(FileFault::Damaged { .. }) => Some(OF_DAMAGE),
-        KeptFault::File(_) => None,
-        KeptFault::Line { why, .. } => crate::advice_on_line(why),
-        KeptFault::NoOpening { .. } => Some(OF_AN_OPENING),
-    }
-}
-
-// Prints what a file is that has another first line than a kept file.
-fn print_other(rt: &HostRuntime, path: &str, file: &[u8]) -> io::Result<()> {
-    if file.is_empty() {
-        eprintln!(rt; "tgaudit: {path}: the file is empty")?;
-    } else if torn_bytes(file) == 0 {
-        eprintln!(rt; "tgaudit: {path}: the file has nothing but zeros")?;
-    } else if file.starts_with(b"kovshenul kept 1 ") {
-        eprintln!(rt; "tgaudit: {path}: line 1, at byte 0, is damaged")?;
-    } else {
-        let first = first_words(file);
-        eprintln!(rt;
-            "tgaudit: {path}: the first line isn't 'kovshenul kept 1': it begins with '{first}'"
-        )?;
-    }
-    let advice = advice_on_other(file);
-    eprintln!(rt; "tgaudit: {advice}")
-}
-
-// What would be right in the place of such a file.
-fn advice_on_other(file: &[u8]) -> &'static str {
-    if file.starts_with(b"kovshenul entries ") || file.starts_with(b"kovshenul picture ") {
-        OF_A_TEXT
-    } else if file.starts_with(b"kovshenul kept ") && !file.starts_with(b"kovshenul kept 1 ") {
-        OF_ANOTHER_VERSION
-    } else {
-        OF_A_FIRST_LINE
+fn print_fault(rt: &HostRuntime, path: &str, bytes: &[u8], why: KeptFault) -> io::Result<()> {
+    let unread = UnreadFile { bytes, why };
+    eprintln!(rt; "tgaudit: {path}: {unread}")?;
+    match unread.advice() {
+        Some(advice) => eprintln!(rt; "tgaudit: {advice}"),
+        None => Ok(()),
     }
 }

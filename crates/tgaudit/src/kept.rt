@@ -1,21 +1,21 @@
 //! An audit of the bytes of a kept file.
-ghost use Rattle.std.specs.Prelude.{◌≡◌, ◌<◌, ◌++◌, [], List, ℕ, Some, IsTrue, IfOk, IfErr, OnOk, length, string_bytes};
+ghost use Rattle.std.specs.Prelude.{◌≡◌, ◌<◌, ◌++◌, [], List, ℕ, Some, IsTrue, IfOk, IfErr, OnOk, length};
 ghost use Rattle.std.specs.List.{flat_map};
 ghost use Rattle.tg_entries.specs.Read.{HasRead};
 ghost use Rattle.tg_entries.specs.Texts.{IsAudited, end_text};
 ghost use Rattle.tg_keep.specs.Lines.{file_texts, texts_after};
 ghost use Rattle.tg_keep.specs.Opened.{MayOpen};
 ghost use Rattle.tg_keep.specs.Reports.{IsReportOn};
-ghost use Rattle.tgaudit.specs.Kept.{IsAfterFirst, NamesLine, RefusesKept, ended_line, text_before_end, text_of_file};
+ghost use Rattle.tg_found.specs.Kept.{RefusesKept, ended_line, entries_in, kept_text, text_before_end};
+ghost use Rattle.tgaudit.specs.Kept.{IsAfterFirst, NamesLine};
 
 use std::alloc::{AllocError, Global};
-use std::fmt::{self, Formatter};
 use std::marker::Brand;
 use std::sync::ledger::{Blank, Ledger};
 use tg_entries::{LineFault, TextAudit, VERSION};
+use tg_found::{KeptFault, begins_with_digit, end_line};
 use tg_keep::{FileFault, FileReport, LineReader, report_of};
 use tg_text::Count;
-use thiserror::Error;
 
 /// The report on a kept file whose lines are a legal history. It has the number of entries, and the report on the
 /// bytes.
@@ -23,37 +23,6 @@ use thiserror::Error;
 pub(crate) struct KeptAudit<'a> {
     pub(crate) entries: usize,
     pub(crate) report: FileReport<'a>,
-}
-
-/// Why a kept file didn't pass.
-#[derive(Clone, Copy, Error)]
-pub(crate) enum KeptFault {
-    /// The file isn't one of ours, or is damaged.
-    #[error("{0}")]
-    File(FileFault),
-    /// A line doesn't go on with the lines before it.
-    #[error("line {line}, at byte {byte}: {why}")]
-    Line {
-        /// The number of the line, counted from 1.
-        line: usize,
-        /// Where the line begins, counted from 0.
-        byte: usize,
-        /// The fault of the line.
-        why: LineFault,
-    },
-    /// The lines end within the opening, or before it.
-    #[error("the opening is cut off after line {lines}")]
-    NoOpening {
-        /// How many lines the file has.
-        lines: usize,
-    },
-}
-
-// It shows the message. A derived `Debug` takes several times as long to prove.
-impl fmt::Debug for KeptFault {
-    fn fmt<W: fmt::Write>(&self, f: &mut Formatter<W>) -> fmt::Result {
-        fmt::Display::fmt(self, f)
-    }
 }
 
 // How many lines of a file were passed, and how many of them are entries.
@@ -68,7 +37,7 @@ pub(crate) struct PassedLines {
 /// one of ours or is damaged, as [`report_of`] does. `Line` names the first line that doesn't go on with the lines
 /// before it. `NoOpening` says that the opening isn't whole.
 pub(crate) fn audit_kept(alloc: Global, file: &[u8]) -> Result<KeptAudit, KeptFault>
-    ensures legal { IfOk result (λ kept. IsAudited (text_of_file file.now kept.entries) kept.entries) }
+    ensures legal { IfOk result (λ kept. IsAudited (kept_text file.now) kept.entries) }
     ensures report { IfOk result (λ kept. IsReportOn file.now kept.report) }
     ensures opens { OnOk result (MayOpen file.now) }
     ensures refused { IfErr result (RefusesKept file.now) }
@@ -87,7 +56,7 @@ fn audit_named<L: Ledger>(alloc: Global, blank: Blank, file: &[u8]) -> Result<us
     requires name { blank.name ≡ L.name }
     requires parts { blank.parts ≡ L.parts }
     requires some { 0 < blank.parts }
-    ensures legal { IfOk result (λ entries. IsAudited (text_of_file file.now entries) entries) }
+    ensures legal { IfOk result (λ entries. IsAudited (kept_text file.now) entries) }
     ensures refused { IfErr result (RefusesKept file.now) }
 {
     let mut audit = TextAudit::<L>::new(alloc, Count::<L>::new(blank));
@@ -103,7 +72,7 @@ fn audit_all<L: Ledger>(
     file: &[u8],
 ) -> Result<usize, KeptFault>
     requires { HasRead [] audit.old }
-    ensures legal { IfOk result (λ entries. IsAudited (text_of_file file.now entries) entries) }
+    ensures legal { IfOk result (λ entries. IsAudited (kept_text file.now) entries) }
     ensures refused { IfErr result (RefusesKept file.now) }
 {
     let passed = audit_lines(audit, line, file)?;
@@ -132,13 +101,6 @@ fn is_ended<L: Ledger>(
     }
 }
 
-// The last line of a text with so many entries.
-fn end_line(alloc: Global, entries: usize) -> Result<String, AllocError>
-    ensures { IfOk result (λ line. string_bytes line ≡ end_text entries) }
-{
-    format!(in alloc; "entries {entries}\n")
-}
-
 // Whether an audit has ended with so many entries.
 fn has_count(ended: Option<u64>, entries: usize) -> bool
     ensures { IsTrue result → ended ≡ Some entries }
@@ -158,6 +120,7 @@ fn audit_lines<L: Ledger>(
     requires { HasRead [] audit.old }
     ensures read { OnOk result (HasRead (text_before_end file.now) audit.new) }
     ensures lines { IfOk result (λ passed. passed.lines ≡ length (file_texts file.now)) }
+    ensures entries { IfOk result (λ passed. passed.entries ≡ entries_in file.now) }
     ensures refused { IfErr result (RefusesKept file.now) }
 {
     let mut reader = LineReader::new(file);
@@ -184,6 +147,7 @@ fn audit_rest<L: Ledger>(
     requires { IsAfterFirst file.now reader.old.sum.digits reader.old.left.now }
     ensures read { (text : List ℕ) → HasRead text audit.old → OnOk result (HasRead (text ++ flat_map ended_line (texts_after reader.old.sum.digits reader.old.left.now)) audit.new) }
     ensures lines { IfOk result (λ passed. passed.lines ≡ length (file_texts file.now)) }
+    ensures entries { IfOk result (λ passed. passed.entries ≡ entries_in file.now) }
     ensures refused { IfErr result (RefusesKept file.now) }
 {
     let mut lines = 1;
@@ -192,7 +156,7 @@ fn audit_rest<L: Ledger>(
     while let Some(text) = reader.next() {
         lines += 1;
         audit_at(audit, line, text, lines, byte)?;
-        entries += usize::from(is_entry(text));
+        entries += usize::from(begins_with_digit(text));
         byte = file.len() - reader.left.len();
     }
     Ok(PassedLines { lines, entries })
@@ -227,12 +191,4 @@ fn audit_text<L: Ledger>(
     line.extend_from_slice(text)?;
     line.extend_from_slice(b"\n")?;
     audit.line(line.as_slice())
-}
-
-// Whether a line of a text that passed is that of an entry. Only such a line begins with a digit.
-fn is_entry(text: &[u8]) -> bool {
-    match text {
-        [first, ..] => first.is_ascii_digit(),
-        [] => false,
-    }
 }

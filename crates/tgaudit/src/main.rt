@@ -5,13 +5,12 @@
 //! This crate has the command line and the answers.
 //!
 //! With the names of kept files it reads these files, each by itself. `tg_keep` says what the lines of a kept file are.
-//! `kept` audits the bytes of a kept file, and has the theorem of this crate. `files` reads a file by its name, and
-//! prints the outcome.
+//! `tg_found` says which text they are, and has the texts of faults. `kept` audits the bytes of a kept file, and has
+//! the theorem of this crate. `files` reads a file by its name, and prints the outcome.
 #![tactic(auto)]
 
 mod files;
 mod kept;
-mod lines;
 mod words;
 
 use files::{audit_file, print_front};
@@ -19,12 +18,9 @@ use std::env;
 use std::fs::File;
 use std::io::{self, BufReader, ErrorKind, Write};
 use std::process::ExitCode;
-use tg_entries::{
-    LineFault, TextFault, audit_after, audit_text, audit_to_head, part_head_bytes, sum_of,
-};
-use words::{
-    HELP, MORE, OF_A_LINE, OF_A_SUM, OF_AN_ENTRY, OF_THE_END, OF_THE_FIRST_LINE, USAGE, VERSION,
-};
+use tg_entries::{TextFault, audit_after, audit_text, audit_to_head, part_head_bytes, sum_of};
+use tg_found::advice_on_line;
+use words::{HELP, MORE, OF_A_SUM, OF_THE_END, USAGE, VERSION};
 
 // How many bytes are read at once.
 const BLOCK: usize = 65536;
@@ -49,16 +45,6 @@ fn advice_on(fault: &TextFault) -> Option<&'static str> {
         TextFault::CutOff { .. } => Some(OF_THE_END),
         TextFault::NoSum | TextFault::OtherSum => Some(OF_A_SUM),
         TextFault::Stream(_) => None,
-    }
-}
-
-// What a whole line at fault has to be, if the fault doesn't say so.
-pub(crate) fn advice_on_line(why: &LineFault) -> Option<&'static str> {
-    match why {
-        LineFault::OutOfMemory | LineFault::BadSnapshot { .. } => None,
-        LineFault::OtherVersion => Some(OF_THE_FIRST_LINE),
-        LineFault::BadLine => Some(OF_A_LINE),
-        LineFault::BadEntry { .. } => Some(OF_AN_ENTRY),
     }
 }
 

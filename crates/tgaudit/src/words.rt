@@ -114,18 +114,6 @@ pub const USAGE: &str = "Usage: tgaudit [OPTIONS] <TEXT
 /// The line that is printed after a fault of the words.
 pub const MORE: &str = "For more information, try '--help'.";
 
-/// The rule for the first line.
-pub const OF_THE_FIRST_LINE: &str =
-    "each line ends with a line feed alone, and has no carriage return before it";
-
-/// The rule for another line.
-pub const OF_A_LINE: &str =
-    "the order is 'opening WORKERS VERTICES', WORKERS lines 'worker', edges, entries, and last 'entries N'; N is the number of entries before it in this text; a line ends with a line feed alone";
-
-/// The rule for an entry. Entries are counted from 0.
-pub const OF_AN_ENTRY: &str =
-    "an entry is of an active subject, its value fits the law, and its reply is the answer of the rules after the entries before it";
-
 /// The rule for the sum.
 pub const OF_A_SUM: &str =
     "after the snapshot comes 'sha256 SUM', with the SHA-256 of all bytes of the file of the part before, as 64 digits in lower case; tgaudit --snapshot prints it";
@@ -133,32 +121,3 @@ pub const OF_A_SUM: &str =
 /// The rule for the end.
 pub const OF_THE_END: &str =
     "the last line is 'entries N', with the number of entries and a line feed";
-
-/// The rule for the first line of a kept file.
-pub const OF_A_FIRST_LINE: &str =
-    "a kept file begins with the line 'kovshenul kept 1 @c4b942f6', and a line feed after it";
-
-/// The advice for a kept file of another version.
-pub const OF_ANOTHER_VERSION: &str =
-    "this tgaudit reads the form 'kovshenul kept 1'; read the file by the tgaudit of the version that wrote it";
-
-/// How the text of a history is read.
-pub const OF_A_TEXT: &str =
-    "this is the text of a history, whose lines have no sums; tgaudit reads it from standard input, as in 'tgaudit <FILE'";
-
-/// The advice for a damaged file.
-pub const OF_DAMAGE: &str =
-    "a whole line was there, and was altered, moved or lost; take FILE from a copy, or write the lines before the damage by 'tgaudit --front FILE >NEW'";
-
-/// The rule for the opening of a kept file.
-pub const OF_AN_OPENING: &str =
-    "after the first line come 'opening WORKERS VERTICES', WORKERS lines 'worker', and the edges; a store writes the whole opening under another name, and then renames the file";
-
-/// The advice for a name that has no file.
-pub const OF_A_MISSING_FILE: &str = "give the name of a kept file that is there";
-
-/// The advice for a file that may not be read.
-pub const OF_PERMISSION: &str = "who runs tgaudit needs the right to read the file";
-
-/// The advice for the name of a folder.
-pub const OF_A_FOLDER: &str = "give the name of a kept file, and not of a folder";

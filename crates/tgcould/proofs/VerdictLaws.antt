@@ -1,6 +1,5 @@
 -- From pictures to the graphs that they are of.
-use Rattle.std.proofs.Common.{◌≡◌, ◌∙◌, ℕ, List, Option, Some, None, refl, sym, subst}
-use Rattle.std.specs.Prelude.{IfSome}
+use Rattle.std.proofs.Common.{◌≡◌, ◌∙◌, ℕ, List, refl, sym, subst}
 use Rattle.std.specs.List.{All}
 use Rattle.clap.specs.declared.parser.matches.ArgMatches.{ArgMatches}
 use Rattle.tg_model.specs.Graph.{ProtectionGraph}
@@ -51,8 +50,3 @@ all_kept_supposed p q matches supposed made same joined supposes kept =
     λ g picture.
     all_kept_on q (with_edges g supposed.edges.items) supposed.silent.items (texts_of matches NEVER.now)
     (supposes g picture (subst (λ (m : ℕ). All (JoinsMade m) supposed.edges.items) (same ∙ sym picture.made) joined)) kept
-
--- what holds wherever something is known
-pub if_known : {X : Type 0} (known : Option X) (P : X → Type 0) → ((x : X) → known ≡ Some x → P x) → IfSome known P
-if_known None P all = tt
-if_known (Some x) P all = all x refl

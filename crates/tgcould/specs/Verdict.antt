@@ -10,7 +10,7 @@ use Rattle.tg_could.specs.Turns.{NeverHolds}
 use Rattle.tg_plain.specs.declared.options.PlainOptions.{PlainOptions}
 use Rattle.tg_plain.specs.declared.outcome.Outcome.{Outcome}
 use Rattle.tg_plain.specs.declared.refused.RefusedLine.{RefusedLine}
-use Rattle.tg_plain.specs.Past.{IsLeftBy}
+use Rattle.tg_plain.specs.Past.{IsGiven, IsLeftBy}
 use Rattle.tgcould.specs.declared.options.TheConstants.{ALLOW_DENIED, NEVER}
 use Rattle.tgcould.specs.declared.query.Query.{Query}
 use Rattle.tgcould.specs.declared.query.Query.TheVariants.{Hold, Who, What}
@@ -63,6 +63,10 @@ FailsPolicies matches refused = HasPolicy matches × (¬ AllowsDenied matches) �
 abbrev pub SaysStock : ArgMatches → PlainOptions → Type 0
 SaysStock matches options = option_map (λ s. s.now) options.stock ≡ first_value (found_of matches) (codes "stock")
 
+-- the name of the kept file is the text of its option, or none if the option isn't in the words
+abbrev pub SaysKept : ArgMatches → PlainOptions → Type 0
+SaysKept matches options = option_map (λ s. s.now) options.kept ≡ first_value (found_of matches) (codes "kept")
+
 -- The meaning of the exit status for a script or a history that was read to its end. If it is known which bytes the reader had,
 -- they are its text. If the status is 0, all policies are kept on the graph that it leaves. It is 3 exactly if lines of the script
 -- fail the policies.
@@ -73,3 +77,13 @@ pub record IsVerdict (options : PlainOptions) (matches : ArgMatches) (remaining 
   pub is_supposed : IsSupposed matches supposed
   pub kept : status ≡ 0 → AreKept matches supposed outcome.picture
   pub denied : (status ≡ 3) ↔ FailsPolicies matches outcome.refused.items
+
+-- The verdict is about what the words give to read: the text that a kept file says, if the words name a kept file, or else what a
+-- reader has.
+pub record IsVerdictOnGiven {Reader : Type 0} (remaining : Reader → Option (List ℕ)) (matches : ArgMatches) (status : ℕ) : Type 0 where
+  pub options : PlainOptions
+  pub known : Option (List ℕ)
+  pub stock : SaysStock matches options
+  pub kept : SaysKept matches options
+  pub given : IsGiven remaining options.kept known
+  pub verdict : IsVerdict options matches known status

@@ -3,9 +3,10 @@
 pub const ABOUT: &str = "Answers whether x could ever come to hold a right over y
 
 Reads a script of tgstore from standard input and runs it. Or it reads the text of a history, as tgstore --entries
-writes it, and replays it. Then it answers questions about the graph that it leaves: could x come to hold a right over y,
-by any commands of the active subjects? Name each subject that you trust as silent. A silent subject gives no command.
-Both answers, 'never' and 'could', are proved.";
+writes it, and replays it. With --kept it reads the history of a kept file, as a store that runs puts it there. Then it
+answers questions about the graph that is left: could x come to hold a right over y, by any commands of the active
+subjects? Name each subject that you trust as silent. A silent subject gives no command. Both answers, 'never' and 'could',
+are proved.";
 
 pub const STOCK: &str =
     "Names the boxes that new vertices take, as --stock of tgstore does [default:
@@ -28,7 +29,7 @@ pub const ALLOW_DENIED: &str =
 it the status is 3 then";
 
 pub const ADVICE: &str =
-    "put a question or an edge in quotes, as in --ask '3 r 7'. A script comes from standard input, as in < script.txt";
+    "put a question or an edge in quotes, as in --ask '3 r 7'. A script comes from standard input, as in < script.txt, and a kept file by --kept FILE";
 
 pub const MANUAL: &str = "Questions:
   X and Y are names of vertices. RIGHT is one letter of r w t g a l u v. The word 'new' in the place of a name is the next
@@ -71,6 +72,11 @@ Histories:
   about a store that exists. A text that tgaudit refuses is refused with the same message. The history decides --workers
   and --vertices: leave them out, or give its own numbers. --stock isn't accepted with a history. A denied entry doesn't
   fail a policy. A vertex that the snapshot doesn't show, and that no entry makes, holds nothing.
+
+  With --kept FILE the history is that of the kept file FILE, and standard input isn't read. FILE is only read, and a store
+  may use it meanwhile. The answers are about the lines of FILE that were whole when FILE was read. If a crash cut the last
+  lines off, standard error says so, and the lines before them count. A FILE that tgaudit FILE refuses is refused. Standard
+  error then names FILE and the line, and says what would be right. tgcould takes memory for FILE, its text and its entries.
 
 What is no right:
   tgcould answers about rights. A worker also learns from names, from refusals for room, from the number of a 'full' and

@@ -12,8 +12,7 @@
 #![tactic(auto)]
 
 ghost use Rattle.std.specs.Prelude.{◌≡◌, ◌⊎◌, IfOk};
-ghost use Rattle.tg_plain.specs.declared.options.PlainOptions.{PlainOptions};
-ghost use Rattle.tgcould.specs.Verdict.{IsVerdict, SaysStock};
+ghost use Rattle.tgcould.specs.Verdict.{IsVerdictOnGiven};
 
 mod answers;
 mod ask;
@@ -31,9 +30,10 @@ mod verdict;
 use checks::{are_accepted, is_asked};
 use clap::ArgMatches;
 use options::COMMAND_LINE;
+use std::fs::Files;
 use std::process::ExitCode;
 use supposed::Supposed;
-use tg_plain::{PlainFault, Program, obey, read_options};
+use tg_plain::{PlainFault, Program, obey};
 use verdict::status_of;
 
 fn main(rt: HostRuntime) -> ExitCode {
@@ -44,19 +44,17 @@ fn main(rt: HostRuntime) -> ExitCode {
 #[derive(Clone, Copy)]
 struct Asking;
 
-impl<R: AllocGlobal + Print + Eprint + Input> Program<R> for Asking {
+impl<R: AllocGlobal + Print + Eprint + Input + Files> Program<R> for Asking {
     // The status is 2 if the words aren't accepted. If it is 0, all policies are kept. It is 3 exactly if there is a
     // policy, no line may be denied, and a line of the script was denied or refused.
     fn run(&self, rt: &R, matches: &ArgMatches) -> Result<u8, PlainFault>
-        ensures { IfOk result (λ status. (status ≡ 2) ⊎ ((options : PlainOptions) × (reader : R.Reader) × SaysStock matches.now options × IsVerdict options matches.now (R.Reader.remaining reader) status)) }
+        ensures { IfOk result (λ status. (status ≡ 2) ⊎ IsVerdictOnGiven R.Reader.remaining matches.now status) }
     {
         if !are_accepted(rt, matches) {
             return Ok(2);
         }
         match Supposed::read(rt, rt.alloc(), matches)? {
-            Some(supposed) if is_asked(rt, matches) => {
-                status_of(rt, matches, &supposed, read_options(matches), rt.reader())
-            }
+            Some(supposed) if is_asked(rt, matches) => status_of(rt, matches, &supposed),
             _ => Ok(2),
         }
     }

@@ -5,7 +5,7 @@ ghost use Rattle.tgcould.specs.Verdict.{AllowsDenied, HasPolicy};
 use crate::help;
 use clap::builder::ValueParser;
 use clap::{ArgAction, ArgMatches};
-use tg_plain::{Choice, CommandLine, STOCK, VERTICES, WORKERS};
+use tg_plain::{Choice, CommandLine, KEPT, STOCK, VERTICES, WORKERS};
 
 /// Who takes no turns.
 pub const SILENT: &str = "silent";
@@ -28,6 +28,7 @@ const CHOICES: &[Choice] = &[
     WORKERS,
     VERTICES,
     BOXES,
+    KEPT,
     Choice {
         name: SILENT,
         action: ArgAction::Append,

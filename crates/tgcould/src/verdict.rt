@@ -1,42 +1,54 @@
 //! The exit status, which is 0 only if all policies are kept, and 3 if the script's own lines were denied.
-ghost use Rattle.std.specs.Prelude.{◌≡◌, ◌<◌, ◌↔◌, IfOk, IsTrue};
+ghost use Rattle.std.specs.Prelude.{◌≡◌, ◌<◌, ◌↔◌, ℕ, List, Option, IfOk, IsTrue};
 ghost use Rattle.std.specs.List.{All};
+ghost use Rattle.tg_plain.specs.Past.{IsGiven};
 ghost use Rattle.tgcould.specs.Policies.{IsKeptPolicy, texts_of};
 ghost use Rattle.tgcould.specs.Supposed.{IsSupposed};
-ghost use Rattle.tgcould.specs.Verdict.{AreKept, FailsPolicies, IsVerdict};
+ghost use Rattle.tgcould.specs.Verdict.{AreKept, FailsPolicies, IsVerdict, IsVerdictOnGiven};
 
 use crate::answers::Answers;
 use crate::checks::are_made;
-use crate::options::{ASK, NEVER, allows_denied, has_policy, questions_in};
+use crate::options::{ASK, COMMAND_LINE, NEVER, allows_denied, has_policy, questions_in};
 use crate::refused::report;
 use crate::supposed::{Supposed, suppose};
 use clap::ArgMatches;
-use std::io::Read;
+use std::fs::Files;
 use tg_could::Scene;
 use tg_model::Picture;
-use tg_plain::{Outcome, PlainFault, PlainOptions, RefusedLine};
+use tg_plain::{Outcome, PlainFault, PlainOptions, RefusedLine, read_options};
 
 // The status if a line of the script was denied or refused, and there is a policy that doesn't allow it.
 const REFUSED_LINES: u8 = 3;
 
-/// Answers what is asked on the graph that the reader's script leaves, run with these options, or that its history
-/// leaves. Reports the script's lines that were denied or refused. Returns the exit status. If it is 0, all policies
+/// Answers what is asked on the graph that a script or a history leaves. The words say what is read, and what a script
+/// runs on. Reports the script's lines that were denied or refused. Returns the exit status. If it is 0, all policies
 /// are kept. It is 3 exactly if there is a policy, no line may be denied, and a line was denied or refused.
-pub fn status_of<R: AllocGlobal + Print + Eprint, B: Read + Drop>(
+pub fn status_of<R: AllocGlobal + Print + Eprint + Input + Files>(
+    rt: &R,
+    matches: &ArgMatches,
+    supposed: &Supposed,
+) -> Result<u8, PlainFault>
+    requires { IsSupposed matches.now supposed.now }
+    ensures { IfOk result (IsVerdictOnGiven R.Reader.remaining matches.now) }
+{
+    status_given(rt, matches, supposed, read_options(matches))
+}
+
+// The exit status with these options. Their kept file is read, or else standard input.
+fn status_given<R: AllocGlobal + Print + Eprint + Input + Files>(
     rt: &R,
     matches: &ArgMatches,
     supposed: &Supposed,
     options: PlainOptions,
-    reader: B,
 ) -> Result<u8, PlainFault>
     requires { IsSupposed matches.now supposed.now }
-    ensures { IfOk result (IsVerdict options.entry matches.now (B.remaining reader)) }
+    ensures { IfOk result (λ status. (known : Option (List ℕ)) × IsGiven R.Reader.remaining options.entry.kept known × IsVerdict options.entry matches.now known status) }
 {
     let Outcome {
         picture,
         boxes,
         refused,
-    } = Outcome::read(rt.alloc(), options, reader)?;
+    } = Outcome::given(rt, COMMAND_LINE.name, options)?;
     let fails = fails_policies(matches, refused.as_slice());
     report(rt, refused.as_slice(), fails)?;
     let status = status_on(rt, matches, supposed, picture, boxes)?;

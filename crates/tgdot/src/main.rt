@@ -30,6 +30,7 @@ use clap::ArgMatches;
 use drawing::{write_last, write_past};
 use options::{COMMAND_LINE, DotOptions, LineRange, options_of};
 use std::alloc::Global;
+use std::fs::Files;
 use std::process::ExitCode;
 use steps::write_steps;
 use tg_entries::History;
@@ -43,23 +44,23 @@ fn main(rt: HostRuntime) -> ExitCode {
 #[derive(Clone, Copy)]
 struct Plotting;
 
-impl<R: AllocGlobal + Print + Input> Program<R> for Plotting {
+impl<R: AllocGlobal + Print + Eprint + Input + Files> Program<R> for Plotting {
     fn run(&self, rt: &R, matches: &ArgMatches) -> Result<u8, PlainFault> {
-        draw_input(rt, rt.alloc(), options_of(matches))?;
+        draw_input(rt, options_of(matches))?;
         Ok(0)
     }
 }
 
-// Draws what the script or the history on standard input leaves, or the steps of the script.
-fn draw_input<R: Print + Input>(
+// Draws what the script or the history leaves that is given, or the steps of the script.
+fn draw_input<R: AllocGlobal + Print + Eprint + Input + Files>(
     rt: &R,
-    alloc: Global,
     options: DotOptions,
 ) -> Result<(), PlainFault> {
     if let Some(range) = options.steps {
         range.check()?;
     }
-    match InputText::read(alloc, options.plain, rt.reader())? {
+    let alloc = rt.alloc();
+    match InputText::given(rt, COMMAND_LINE.name, options.plain)? {
         InputText::Lines(script) => print(rt, &mut PlainText::new(alloc), options.steps, &script),
         InputText::Entries(_) if options.steps.is_some() => Err(PlainFault::StepsOfHistory),
         InputText::Entries(history) => draw_history(rt, alloc, &history),

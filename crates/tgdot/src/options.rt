@@ -3,13 +3,14 @@
 use clap::builder::ValueParser;
 use clap::{ArgAction, ArgMatches};
 use tg_plain::{
-    Choice, CommandLine, PlainFault, PlainOptions, STOCK, VERTICES, WORKERS, read_options,
+    Choice, CommandLine, KEPT, PlainFault, PlainOptions, STOCK, VERTICES, WORKERS, read_options,
 };
 
 const ABOUT: &str = "Draws the graph that a script leaves, for GraphViz's dot
 
 Reads a script of tgstore from standard input, runs it, and writes a digraph to standard output. Or it reads the text of a
-history, as tgstore --entries writes it, and draws the graph after the last entry. The history decides --workers and
+history, as tgstore --entries writes it, and draws the graph after the last entry. With --kept it reads the history of a
+kept file, up to its last whole line. FILE is only read, and a store may use it meanwhile. The history decides --workers and
 --vertices, and --stock and --steps aren't accepted with it. A subject is a box, with a dashed border if it retired. An
 object is a circle, or an ellipse if its text is long. Each edge is an arrow with its rights. A vertex that no subject
 reaches is grey.
@@ -28,7 +29,7 @@ Example:
   printf '0 create rw\\n0 list\\n' | tgdot --workers 1 --stock c | dot -Tsvg > graph.svg";
 
 const ADVICE: &str =
-    "a script comes from standard input, and dot has options of its own, as in tgdot < script.txt | dot -Tsvg";
+    "a script comes from standard input and a kept file by --kept FILE, and dot has options of its own, as in tgdot < script.txt | dot -Tsvg";
 
 // The number of a line, as an option has it.
 const LINE: ValueParser<'static> = ValueParser::Unsigned(1, i64::MAX as u64);
@@ -47,6 +48,7 @@ const CHOICES: &[Choice] = &[
     WORKERS,
     VERTICES,
     STOCK,
+    KEPT,
     Choice {
         name: "steps",
         action: ArgAction::SetTrue,

@@ -4,7 +4,7 @@ use Rattle.std.specs.List.{flat_map}
 use Rattle.tg_entries.specs.Read.{HasRead}
 use Rattle.tg_entries.specs.Texts.{version_text}
 use Rattle.tg_keep.proofs.Scanning.{begins_none, none_of}
-use Rattle.tgaudit.specs.Kept.{ended_line}
+use Rattle.tg_found.specs.Kept.{ended_line}
 use Rattle.tgaudit.proofs.KeptLaws.{after_first}
 use Rattle.tgaudit.proofs.kept.audit_lines.Goals as goal
 

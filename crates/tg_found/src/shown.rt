@@ -5,9 +5,10 @@ use std::str;
 // How many bytes of a first line are shown.
 const SHOWN: usize = 40;
 
-/// The bytes of a file after its first so many, or no bytes if it has no more.
-pub(crate) fn bytes_after(file: &[u8], at: usize) -> &[u8] {
-    &file[at.min(file.len())..]
+/// How many bytes of a file are left out, if only the bytes before this place are read. The zeros at the end of the
+/// file don't count.
+pub fn bytes_left_out(file: &[u8], end: usize) -> usize {
+    torn_bytes(&file[end.min(file.len())..])
 }
 
 /// How many bytes come before the zeros at the end.
