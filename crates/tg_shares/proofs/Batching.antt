@@ -1,7 +1,7 @@
 -- A batch of commands for which a purse pays: what was done of it in the lock, and what the client's session knows then.
-use Rattle.std.proofs.Common.{◌≡◌, ◌∙◌, ℕ, ◌+◌, ◌<◌, ◌≤◌, min, Bool, true, false, List, [], ◌∷◌, Some, Result, Ok, Err, length, length-take-le, ltb-false, ltb-true, map, take, take-take, take_all, get_or-take, ap, arith, refl, subst, sym}
+use Rattle.std.proofs.Common.{◌≡◌, ◌∙◌, ℕ, ◌+◌, ◌<◌, ◌≤◌, min, Bool, true, false, List, [], ◌∷◌, Some, Result, Ok, Err, length, length-take-le, ltb-true, map, take, take-take, get_or-take, ap, arith, refl, subst, sym}
 use Rattle.std.proofs.lemmas.Option.{get_or_from_slice_get, slice_get-get_or, slice_get_within}
-use Rattle.std.specs.Prelude.{IfErr, IfOk, OnOk, if◌then◌else◌, nat_lt, slice_get}
+use Rattle.std.specs.Prelude.{IfErr, IfOk, OnOk, if◌then◌else◌, nat_lt}
 use Rattle.tg_model.specs.declared.command.Command.{Command}
 use Rattle.tg_model.specs.declared.command.Deed.TheVariants.{Plain}
 use Rattle.tg_journal.specs.declared.entry.Entry.{Entry}
@@ -10,7 +10,7 @@ use Rattle.tg_store.specs.declared.batch.BatchFault.{BatchFault}
 use Rattle.tg_store.specs.declared.batch.BatchFault.TheVariants.{Stopped, TooLong}
 use Rattle.tg_store.specs.declared.fault.ApplyFault.{ApplyFault}
 use Rattle.tg_store.specs.Store.{StoreState}
-use Rattle.tg_shared.specs.Batch.{AddsInLock, ServesAll, StopsServing, StopsServingAt}
+use Rattle.tg_shared.specs.Batch.{AddsInLock, ServesAll, StopsServing}
 use Rattle.tg_shared.specs.Sessions.{HoldsWhenFree, LockedState, SessionState, SharedStart}
 use Rattle.tg_shared.proofs.Replies.{IsReady, refused_ready}
 use Rattle.tg_shares.specs.declared.fault.PaidCallsFault.{PaidCallsFault}

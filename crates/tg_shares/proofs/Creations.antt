@@ -1,5 +1,5 @@
 -- A batch of creates for which a purse pays, vertex by vertex, and what the client's session knows then.
-use Rattle.std.proofs.Common.{◌≡◌, ◌↔◌, ◌⊎◌, inl, inr, ◌∙◌, ℕ, ◌+◌, ◌<◌, List, [], Result, Ok, Err, take, ap, arith, subst, sym}
+use Rattle.std.proofs.Common.{◌≡◌, ◌↔◌, ◌⊎◌, inl, inr, ℕ, ◌+◌, List, Result, Err, take, ap, arith, subst}
 use Rattle.tg_rights.specs.RightSet.{RightSet}
 use Rattle.tg_model.specs.declared.value.Value.{Value}
 use Rattle.tg_store.specs.declared.fault.CreateFault.{CreateFault}

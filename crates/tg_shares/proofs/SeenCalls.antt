@@ -1,6 +1,6 @@
 -- What a session knows of a batch of commands. The lemmas are those of the proofs of `tg_shared` that have their names, which that
 -- crate keeps to itself.
-use Rattle.std.proofs.Common.{◌≡◌, ◌∙◌, ℕ, ◌+◌, List, [], ◌∷◌, ◌++◌, length, map, ap, arith, refl, subst, sym, ◌⊎◌, inl, inr, ◌<◌, Some, take}
+use Rattle.std.proofs.Common.{◌≡◌, ◌∙◌, ℕ, List, [], ◌∷◌, ◌++◌, length, map, ap, arith, refl, subst, sym, ◌⊎◌, inl, inr, ◌<◌, Some, take}
 use Rattle.std.proofs.lemmas.List.{append-nil}
 use Rattle.tg_journal.specs.declared.entry.Entry.{Entry}
 use Rattle.tg_journal.specs.History.{IsLegal}

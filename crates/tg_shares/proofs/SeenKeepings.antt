@@ -1,6 +1,6 @@
 -- What the keeper knows of a withdrawal, a parking and an unparking. The lemmas are those of the proofs of `tg_shared` that have their
 -- names, which that crate keeps to itself.
-use Rattle.std.proofs.Common.{◌≡◌, ◌∙◌, ◌+◌, ◌-◌, ℕ, List, [], ◌∷◌, ◌++◌, ap, arith, length, length-append, map, refl}
+use Rattle.std.proofs.Common.{◌≡◌, ◌∙◌, ◌+◌, ℕ, List, [], ◌∷◌, ◌++◌, ap, arith, length, length-append, map, refl}
 use Rattle.tg_rights.specs.RightSet.{RightSet, only}
 use Rattle.tg_model.specs.Graph.{ProtectionGraph, listing_of}
 use Rattle.tg_journal.specs.declared.entry.Entry.{Entry}

@@ -1,8 +1,7 @@
 -- Batches of creates that a purse pays for: the effect in the lock, and the knowledge of the client's session after it.
-use Rattle.std.specs.Prelude.{◌≡◌, ◌≢◌, ℕ, ◌<◌, List, Result, Ok, Err, drop, length, take}
+use Rattle.std.specs.Prelude.{◌≡◌, ℕ, ◌<◌, List, Result, Ok, Err, drop, length, take}
 use Rattle.tg_rights.specs.RightSet.{RightSet}
 use Rattle.tg_model.specs.declared.value.Value.{Value}
-use Rattle.tg_store.specs.declared.fault.CreateFault.TheVariants as fault
 use Rattle.tg_shared.specs.declared.creating.CreatesFault.TheVariants.{Stopped, TooLong}
 use Rattle.tg_shared.specs.Creating.{MakesAll, MakesInLock, StopsCreates, StopsMaking}
 use Rattle.tg_shared.specs.Sessions.{HasLooked, LockedState, SessionState, SharedStart}
