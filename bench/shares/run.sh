@@ -1,7 +1,8 @@
 #!/bin/sh
-# run.sh: a race of 1,000,000 calls. Eight clients on threads ask 125,000 times each. Seven of them ask for a vertex, with a share
-# of 40,000, and the eighth keeps below its own share. It builds and runs the program beside it (`main.rt.in`), which isn't proved,
-# with the crates that it needs, in a temporary folder. It prints the outcome of each client's calls.
+# run.sh: a race for 1,000,000 deeds. Eight clients on threads ask for 125,000 each. Seven of them ask for a vertex, with a share of
+# 40,000, and the eighth keeps below its own share. Three of the seven ask by batches of 125 drafts, and the others one by one. The
+# script builds and runs the program beside it (`main.rt.in`), which isn't proved, with the crates that it needs, in a temporary
+# folder. It prints the outcome of each client's calls.
 set -eu
 here=$(cd "$(dirname "$0")" && pwd)
 top=$(cd "$here/../.." && pwd)

@@ -1,2 +1,7 @@
 mod Answering
+mod Batching
+mod Creations
 mod Paying
+mod SeenCalls
+mod SeenCreates
+mod SeenKeepings

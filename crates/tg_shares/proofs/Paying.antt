@@ -1,6 +1,7 @@
 -- What a call makes of the vertices that are paid for, and that there is a name for who can pay.
 use Rattle.std.specs.Prelude.{IfOk, OnErr}
-use Rattle.std.proofs.Common.{◌≡◌, ◌≢◌, refl, sym, subst, ℕ, ◌+◌, ◌<◌, ◌≤◌, Result, Ok, Err, ◌∙◌, ap, arith, length, length-append}
+use Rattle.std.proofs.Common.{◌≡◌, ◌≢◌, refl, sym, subst, ℕ, ◌+◌, ◌<◌, ◌≤◌, List, [], ◌∷◌, Result, Ok, Err, ◌∙◌, ap, arith, le_refl, length, length-append, map}
+use Rattle.std.proofs.lemmas.List.{length-map}
 use Rattle.tg_model.specs.declared.command.Command.{Command}
 use Rattle.tg_model.specs.declared.command.Deed.{Deed}
 use Rattle.tg_model.specs.declared.command.Deed.TheVariants.{Create, Plain, Spawn}
@@ -9,6 +10,7 @@ use Rattle.tg_model.specs.declared.reply.Reply.TheVariants.{WorkersFull}
 use Rattle.tg_model.specs.Graph.{ProtectionGraph, listing_of}
 use Rattle.tg_model.specs.Rules.{step}
 use Rattle.tg_model.proofs.AllowedLaws.{create_cases, plain_cases, spawn_cases}
+use Rattle.tg_journal.specs.declared.entry.Entry.{Entry}
 use Rattle.tg_journal.specs.History.{graph_after}
 use Rattle.tg_journal.proofs.HistoryLaws.{graph_after-limit}
 use Rattle.tg_store.specs.Origin.{Origin, start_at}
@@ -18,11 +20,12 @@ use Rattle.tg_store.proofs.StandLaws.{graph-entered}
 use Rattle.tg_store.specs.declared.fault.ApplyFault.{ApplyFault}
 use Rattle.tg_store.specs.declared.fault.CreateFault.{CreateFault}
 use Rattle.tg_store.specs.declared.fault.CreateFault.TheVariants as fault
+use Rattle.tg_shared.specs.Batch.{ServesAll}
 use Rattle.tg_shared.specs.Serving.{EndsWorker}
-use Rattle.tg_shared.specs.Sessions.{LockedState}
+use Rattle.tg_shared.specs.Sessions.{LockedState, SessionState}
 use Rattle.tg_shared.proofs.Leavings.{length_leaving}
 use Rattle.tg_shares.specs.declared.purse.Portion.{Portion}
-use Rattle.tg_shares.specs.Shares.{IsCovered, one_entry, one_vertex}
+use Rattle.tg_shares.specs.Shares.{IsCovered, entries_alone, one_entry, one_vertex}
 use Rattle.tg_shares.specs.Tills.{ArePaid, TakesIn, TillState}
 
 one_at_most : (g : ProtectionGraph) (x : ℕ) (deed : Deed) → (step g x deed).made ≤ g.made + 1
@@ -172,3 +175,33 @@ holds_after_end (Ok count) worker till old new held ended entered none =
     holds_ended worker count till old new held ended.left (ended.count (graph_of_store old.store) refl) entered
 holds_after_end (Err e) worker till old new held ended entered none =
     holds_still till till old new held refl ended.unchanged.opening ended.unchanged.entries none
+
+-- ---- a batch of commands
+
+-- commands make no vertex
+none_made_all : (g : ProtectionGraph) (es : List Entry) (commands : List Command) → map (λ e. e.deed) es ≡ map Plain commands → (graph_after g es).made ≤ g.made
+none_made_all g [] commands is = le_refl g.made
+none_made_all g (e ∷ es) [] is = let no : ⊥ = cc in absurd no
+none_made_all g (e ∷ es) (command ∷ commands) is =
+    let deed : e.deed ≡ Plain command = cc in
+    let others : map (λ (x : Entry). x.deed) es ≡ map Plain commands = cc in
+    let one : (step g e.worker e.deed).made ≤ g.made = subst (λ (d : Deed). (step g e.worker d).made ≤ g.made) (sym deed) (none_made g e.worker command) in
+    let more = none_made_all (step g e.worker e.deed) es commands others in
+    omega (arith, one, more)
+
+-- the commands of a batch were entered, and paid for
+pub holds_served : (till next : TillState) (old new : LockedState) (before after : SessionState) (commands : List Command) (count : ℕ) → Holds till old → ServesAll commands old new before after → length commands ≡ count →
+    new.entered ≡ old.entered → TakesIn (entries_alone count) till next → Holds next new
+holds_served till next old new before after commands count held served long entered paid =
+    let made : List Entry = served.applies.made in
+    let many : length made ≡ count = sym (length-map made (λ (e : Entry). e.deed)) ∙ ap (λ (ds : List Deed). length ds) served.applies.theirs.deeds ∙ length-map commands Plain ∙ long in
+    let grows = ap (λ (g : ProtectionGraph). g.made) served.applies.graph in
+    let none = none_made_all (graph_of_store old.store) made commands served.applies.theirs.deeds in
+    let limit = limit_kept old.store new.store served.applies.opening in
+    let taken : next.left.vertices + 0 ≡ till.left.vertices = paid.left.vertices in
+    let covered = held.covered in
+    let long : length new.store.entries ≡ length old.store.entries + length made = ap length served.applies.entries ∙ length-append old.store.entries made in
+    record {
+      covered = omega (arith, grows, none, limit, taken, covered);
+      paid = paid_more (entries_alone count) till next old new held.paid (omega (arith, long, many)) entered paid;
+    }

@@ -1,2 +1,5 @@
 pub mod Shares
 pub mod Tills
+pub mod Batch
+pub mod Creating
+pub mod Keeping

@@ -26,9 +26,12 @@ entries_alone count = record { vertices = 0; entries = count }
 abbrev pub one_entry : Portion
 one_entry = entries_alone 1
 
--- a vertex, and the entry by which it is made
+-- so many vertices, and the entry by which each is made
+abbrev pub vertices_with_entries : ℕ → Portion
+vertices_with_entries count = record { vertices = count; entries = count }
+
 abbrev pub one_vertex : Portion
-one_vertex = record { vertices = 1; entries = 1 }
+one_vertex = vertices_with_entries 1
 
 -- exactly this was taken out of a purse
 pub record Pays (part old new : Portion) : Type 0 where

@@ -1,5 +1,5 @@
 //! Purses. They say how many vertices and entries their holders may still take.
-ghost use Rattle.std.specs.Prelude.{◌≡◌, ◌≢◌, ◌↔◌, ◌<◌, ◌≤◌, ◌+◌, ◌^◌, Err, IfOk, OnErr, OnOk};
+ghost use Rattle.std.specs.Prelude.{◌≡◌, ◌≢◌, ◌↔◌, ◌<◌, ◌≤◌, ◌+◌, ◌^◌, Err, IfErr, IfOk, OnErr, OnOk};
 ghost use Rattle.tg_shares.specs.declared.fault.Lack.{Lack as LackOf};
 ghost use Rattle.tg_shares.specs.Shares.{CanPayForVertex, LacksToMake, Pays, entries_alone, one_entry, one_vertex};
 ghost use Rattle.tg_shares.specs.Tills.{TakesIn};
@@ -137,9 +137,10 @@ impl<V: Ledger, E: Ledger> Purse<V, E> {
     }
 
     /// Whether its holder, a worker, may make a vertex, and hand a part on besides. Refused exactly if the purse has no
-    /// vertex beside the part's, which is looked at first, or no entry beside the part's.
+    /// vertex beside the part's, which is looked at first, or no entry beside the part's. A refusal names the worker.
     pub fn may_make(&self, worker: u64, part: Portion) -> Result<(), ShareFault>
         ensures may { OnOk result ((part.vertices < self.now.vertices) × (part.entries < self.now.entries)) }
+        ensures named { IfErr result (λ why. why.worker ≡ worker) }
         ensures lacks { (lack : LackOf) → (result ≡ Err (record { worker = worker; lacks = lack })) ↔ LacksToMake part self.now lack }
     {
         if self.vertices <= part.vertices {
@@ -157,9 +158,11 @@ impl<V: Ledger, E: Ledger> Purse<V, E> {
         Ok(())
     }
 
-    /// Whether its holder, a worker, may make an entry. Refused exactly if the purse has no entry.
+    /// Whether its holder, a worker, may make an entry. Refused exactly if the purse has no entry. A refusal names the
+    /// worker and the entries.
     pub fn may_enter(&self, worker: u64) -> Result<(), ShareFault>
         ensures may { OnOk result (0 < self.now.entries) }
+        ensures named { IfErr result (λ why. why ≡ record { worker = worker; lacks = Lack.Entries }) }
         ensures lacks { (result ≡ Err (record { worker = worker; lacks = Lack.Entries })) ↔ (self.now.entries ≡ 0) }
     {
         if self.entries == 0 {
