@@ -1,10 +1,10 @@
 #!/usr/bin/env python3
 """tests/runs/kept.py [--check]
 
-Writes the kept files of the rows of tests/runs/audit, tests/runs/could and tests/runs/dot whose names begin with kept_:
-for each row the folder files. Each is made from one of two small histories, by zlib's CRC-32 and with no code of the
-store. The texts that tgaudit, tgcould and tgdot have to write beside them are stored by hand. With --check it compares
-the stored files with those that it makes, and writes nothing. The last line is 'kept: N files'."""
+Writes the kept files of the rows of tests/runs/audit, tests/runs/could and tests/runs/dot whose names begin with kept_,
+and of rows of tests/runs/kept: for each row the folder files. Each is made from one of two small histories, by zlib's
+CRC-32 and with no code of the store. The texts that the programs have to write beside them are stored by hand. With
+--check it compares the stored files with those that it makes, and writes nothing. The last line is 'kept: N files'."""
 import sys
 import zlib
 from collections.abc import Iterable
@@ -139,7 +139,25 @@ DRAWN = {
     "kept_steps": {"store": GRANTED_CLOSED},
     "kept_with_a_stock": {"store": GRANTED_CLOSED},
 }
-FILES = {f"{group}/{row}": files for group, rows in (("audit", AUDITED), ("could", ASKED), ("dot", DRAWN)) for row, files in rows.items()}
+# The rows of tests/runs/kept that go on from a file, or can't.
+GONE_ON = {
+    "goes_on_from_a_closed_file": {"a.kept": CLOSED},
+    "goes_on_from_a_file_in_use_at_a_crash": {"a.kept": OPEN + bytes(4096)},
+    "goes_on_from_an_end_that_is_cut_off": {"a.kept": OPEN[:-4] + bytes(100)},
+    "goes_on_strictly": {"a.kept": CLOSED},
+    "the_numbers_of_the_file_are_given": {"a.kept": CLOSED},
+    "another_number_of_workers": {"a.kept": CLOSED},
+    "another_limit_of_vertices": {"a.kept": CLOSED},
+    "an_edge_line": {"a.kept": CLOSED},
+    "a_damaged_file": {"a.kept": flipped(line(6) + 4)},
+    "a_reply_that_is_none": {"a.kept": kept((*BATCHES[:3], (b"0 write 1 7 = ok", b"0 read 1 = ok 8")))},
+    "another_programs_file": {"a.kept": b"SQLite format 3\0" + bytes(range(256))},
+    "a_text_of_a_history": {"a.kept": b"kovshenul entries 1\nopening 1 9\nworker c0\nentries 0\n"},
+    "an_empty_file": {"a.kept": b""},
+    "fewer_blocks_than_workers": {"a.kept": CLOSED},
+}
+GROUPS = (("audit", AUDITED), ("could", ASKED), ("dot", DRAWN), ("kept", GONE_ON))
+FILES = {f"{group}/{row}": files for group, rows in GROUPS for row, files in rows.items()}
 
 
 def main() -> int:

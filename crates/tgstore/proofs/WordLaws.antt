@@ -17,8 +17,8 @@ now_or None d = refl
 now_or (Some x) d = refl
 
 -- what was found in the words is what they say
-pub said_of : (words : List (List ℕ)) (found : Found) (o : Options) → rows_of found ≡ matches_of command_line words → AreFound found o.settings → IsFlag (one_text found (codes "race")) o.race → IsFlag (one_text found (codes "entries")) o.entries → IsFlag (one_text found (codes "why")) o.why → IsFlag (one_text found (codes "strict")) o.strict → o.stock.now ≡ unwrap_or (first_value found (codes "stock")) [] → option_map (λ s. s.now) o.resume ≡ first_value found (codes "resume") → AreAsked found o.asked → AreSaid words o
-said_of words found o rows numbers race entries why strict stock resume asked =
+pub said_of : (words : List (List ℕ)) (found : Found) (o : Options) → rows_of found ≡ matches_of command_line words → AreFound found o.settings → IsFlag (one_text found (codes "race")) o.race → IsFlag (one_text found (codes "entries")) o.entries → IsFlag (one_text found (codes "why")) o.why → IsFlag (one_text found (codes "strict")) o.strict → o.stock.now ≡ unwrap_or (first_value found (codes "stock")) [] → option_map (λ s. s.now) o.resume ≡ first_value found (codes "resume") → option_map (λ s. s.now) o.keep ≡ first_value found (codes "keep") → AreAsked found o.asked → AreSaid words o
+said_of words found o rows numbers race entries why strict stock resume keep asked =
     let number : (name : List ℕ) → one_text found name ≡ one_of name (matches_of command_line words) = λ name. one_text-rows found name ∙ ap (one_of name) rows in
     record {
       workers = numbers.workers ∙ ap (number_or 2) (number (codes "workers"));
@@ -32,6 +32,7 @@ said_of words found o rows numbers race entries why strict stock resume asked =
       strict = subst (λ t. IsFlag t o.strict) (number (codes "strict")) strict;
       stock = stock ∙ ap (λ t. unwrap_or t []) (first_value-rows found (codes "stock") ∙ ap (first_of (codes "stock")) rows);
       resume = resume ∙ first_value-rows found (codes "resume") ∙ ap (first_of (codes "resume")) rows;
+      keep = keep ∙ first_value-rows found (codes "keep") ∙ ap (first_of (codes "keep")) rows;
       asked = (asked.workers ∙ ap number_if (number (codes "workers")), asked.vertices ∙ ap number_if (number (codes "vertices")));
     }
 

@@ -39,6 +39,7 @@ status_of_stop (stop.Resume (resume.OtherVertices asked has)) = 2
 status_of_stop (stop.Resume (resume.Text fault)) = 1
 status_of_stop (stop.Resume (resume.Store fault)) = 1
 status_of_stop (stop.Resume resume.NobodyActs) = 2
+status_of_stop (stop.Keep fault) = 2
 status_of_stop (stop.Script fault) = 1
 status_of_stop (stop.Race fault) = 1
 

@@ -55,6 +55,7 @@ option_rules =
     ∷ flag_rule (codes "why")
     ∷ flag_rule (codes "strict")
     ∷ option_rule (codes "resume")
+    ∷ option_rule (codes "keep")
     ∷ []
 
 -- the program, which has a version
@@ -70,13 +71,15 @@ command_line =
     (with_rule
     (with_rule
     (with_rule
+    (with_rule
     (with_rule (with_rule (with_rule (with_rule bare_line (number_rule (codes "workers"))) (number_rule (codes "helpers"))) (number_rule (codes "vertices"))) (number_rule (codes "blocks")))
     (option_rule (codes "stock")))
     (flag_rule (codes "race")))
     (flag_rule (codes "entries")))
     (flag_rule (codes "why")))
     (flag_rule (codes "strict")))
-    (option_rule (codes "resume"))
+    (option_rule (codes "resume")))
+    (option_rule (codes "keep"))
 
 -- the number that a text writes, or this number if there is no text
 abbrev pub number_or : ℕ → Option (List ℕ) → ℕ
@@ -113,6 +116,7 @@ pub record AreSaid (words : List (List ℕ)) (o : Options) : Type 0 where
   pub strict : IsFlag (one_of (codes "strict") (matches_of command_line words)) o.strict
   pub stock : o.stock.now ≡ text_said (codes "stock") words
   pub resume : option_map (λ s. s.now) o.resume ≡ first_of (codes "resume") (matches_of command_line words)
+  pub keep : option_map (λ s. s.now) o.keep ≡ first_of (codes "keep") (matches_of command_line words)
   pub asked : (o.asked.workers ≡ number_if (one_of (codes "workers") (matches_of command_line words)))
       × (o.asked.max_vertices ≡ number_if (one_of (codes "vertices") (matches_of command_line words)))
 

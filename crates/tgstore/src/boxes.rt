@@ -46,8 +46,8 @@ pub(crate) fn serve_with_boxes<
     serve(host, source, sink, watch, parts)
 }
 
-// So many cells with 0. Fails only when out of memory.
-fn new_cells(alloc: Global, count: u64) -> Result<Vec<LawPayload>, AllocError>
+/// So many cells with 0. Fails only when out of memory.
+pub(crate) fn new_cells(alloc: Global, count: u64) -> Result<Vec<LawPayload>, AllocError>
     ensures { IfOk result (λ cells. map (⟦<LawPayload as Payload>⟧.value) cells.items ≡ replicate count (value_of_item Cell)) }
 {
     let mut cells = Vec::new(alloc);

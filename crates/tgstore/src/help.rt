@@ -63,6 +63,14 @@ edge line is a bad line. --stock names the boxes that are left. The output
 with --entries goes on with the text of FILE. With --race the workers are the
 active subjects at the end of FILE [default: a new store]";
 
+pub const KEEP: &str =
+    "Keeps the store in FILE. If FILE isn't there, it is begun. Else the run goes on
+from it: FILE decides who the workers are, what they store, and how many vertices
+may ever be made. If --workers or --vertices is given, its number has to be that
+of FILE. An edge line is then a bad line, and --stock names the boxes that are
+left. A reply is written after its entry is on the disk. --race, --resume and
+--entries can't be given with it [default: the store isn't kept]";
+
 pub const MANUAL: &str = "Script:
   A script has one command a line, and at most 1048576 bytes. A line has at most 256 bytes, and one space between words.
   X, Y and Z are names of vertices, and V is a number. RIGHTS are letters out of r (read), w (write), t (take), g (grant),
@@ -119,6 +127,14 @@ Going on:
   --resume: the snapshot ..    the head of the part has no line 'worker N', so nobody can act
   --race: nobody is active ..  no subject is active at the end of FILE, so no thread runs a line
   --workers N differs ..       FILE names another number of workers at its head
+  --vertices N differs ..      FILE has another limit of vertices
+
+Keeping:
+  With --keep FILE the entries of each line are on the disk before its reply is written. The lines that came at once share a
+  write and a sync. The end of the input closes FILE. 'tgaudit FILE' audits it, and shows its history.
+
+  --keep: FILE: ..             FILE can't be begun or opened, or can't be written any more. No reply was written since
+  --workers N differs ..       FILE names another number of workers
   --vertices N differs ..      FILE has another limit of vertices
 
 Exit status:

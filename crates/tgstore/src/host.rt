@@ -9,3 +9,11 @@ pub struct RunHost<'a, R, C> {
     pub alloc: Global,
     pub collector: &'a C,
 }
+
+/// The runtime, and the runtime once more for calls on files that are kept. Those calls start no thread and wait for
+/// none, and take the runtime of the machine itself.
+#[derive_where(Clone, Copy)]
+pub struct Handles<'a, R> {
+    pub rt: &'a R,
+    pub files: &'a HostRuntime,
+}

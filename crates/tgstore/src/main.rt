@@ -7,7 +7,8 @@
 //! is one line on standard error and a status (`stop`). `obey` does all of it.
 //!
 //! A run with `--resume` goes on from the history of a file. `resuming` reads the file and makes the store, and
-//! `streams_on` runs the script on it. `onward` runs it as a race.
+//! `streams_on` runs the script on it. `onward` runs it as a race. A run with `--keep` is on a store that is kept in a
+//! file. `keeping` goes on from the file or begins it, and `kept_streams` runs the script.
 //!
 //! The definitions to believe are in `specs/`. `Words` says what the words ask for. `Ranges` and `Starts` say what is
 //! refused before any input is read. `Boxes` says what boxes begin with, and `Serving` says what a run reads and
@@ -18,6 +19,8 @@
 mod boxes;
 mod help;
 mod host;
+mod keeping;
+mod kept_streams;
 mod noted;
 mod on_threads;
 mod onward;
@@ -32,9 +35,14 @@ mod streams_on;
 mod strict;
 mod words;
 
+use host::Handles;
 use program::obey;
 use std::process::ExitCode;
 
 fn main(rt: HostRuntime) -> ExitCode {
-    ExitCode::from(obey(&rt, rt.stdin(), rt.stdout()))
+    let handles = Handles {
+        rt: &rt,
+        files: &rt,
+    };
+    ExitCode::from(obey(handles, rt.stdin(), rt.stdout()))
 }

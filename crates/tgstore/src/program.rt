@@ -4,7 +4,8 @@ ghost use Rattle.tgstore.specs.Faults.{exit_status};
 ghost use Rattle.tgstore.specs.Ranges.{AreInRange};
 ghost use Rattle.tgstore.specs.Resumed.{MayGoOnward};
 
-use crate::host::RunHost;
+use crate::host::{Handles, RunHost};
+use crate::keeping::keep_streams;
 use crate::on_threads::OnThreads;
 use crate::onward::Onward;
 use crate::resuming::{HistoryFault, go_on_from};
@@ -29,13 +30,14 @@ use tg_payload::LawPayload;
 /// Does what the words of the command line ask for. It runs the reader's script and writes the replies to the writer,
 /// or prints the help. A fault is one line on standard error. A second line says why a line is bad, if this is asked
 /// for. Returns the exit status.
-pub fn obey<R, I, O>(rt: &R, reader: I, writer: O) -> u8
+pub fn obey<R, I, O>(handles: Handles<R>, reader: I, writer: O) -> u8
 where
     R: AllocGlobal + Env + Files + Print + Eprint + Threads + Wait + Sync,
     I: Read + Drop,
     O: Write + Drop,
 {
-    let outcome = obey_words(rt, reader, writer);
+    let rt = handles.rt;
+    let outcome = obey_words(handles, reader, writer);
     match &outcome {
         Ok(status) if *status == REFUSED_LINES => tell_refused(rt),
         Ok(_) => (),
@@ -69,29 +71,36 @@ pub fn exit_status(outcome: &Result<u8, Stop>) -> u8
 }
 
 // Does what the words of the command line ask for, and answers the status.
-fn obey_words<R, I, O>(rt: &R, reader: I, writer: O) -> Result<u8, Failure>
+fn obey_words<R, I, O>(handles: Handles<R>, reader: I, writer: O) -> Result<u8, Failure>
 where
     R: AllocGlobal + Env + Files + Print + Eprint + Threads + Wait + Sync,
     I: Read + Drop,
     O: Write + Drop,
 {
-    match words_of(rt) {
-        Ok(words) => obey_texts(rt, reader, writer, words.as_slice()),
+    match words_of(handles.rt) {
+        Ok(words) => obey_texts(handles, reader, writer, words.as_slice()),
         Err(stop) => Err(Failure::from(stop)),
     }
 }
 
 // Does what the words ask for, which are text, and returns the status.
-fn obey_texts<R, I, O>(rt: &R, reader: I, writer: O, words: &[String]) -> Result<u8, Failure>
+fn obey_texts<R, I, O>(
+    handles: Handles<R>,
+    reader: I,
+    writer: O,
+    words: &[String],
+) -> Result<u8, Failure>
 where
     R: AllocGlobal + Files + Print + Eprint + Threads + Wait + Sync,
     I: Read + Drop,
     O: Write + Drop,
 {
+    let rt = handles.rt;
     match options(rt.alloc(), words) {
-        Ok(options) => match options.resume {
-            None => serve_streams(rt, reader, writer, &options),
-            Some(path) => resume_streams(rt, reader, writer, &options, path),
+        Ok(options) => match (options.keep, options.resume) {
+            (Some(path), _) => keep_streams(handles, reader, writer, &options, path),
+            (None, None) => serve_streams(rt, reader, writer, &options),
+            (None, Some(path)) => resume_streams(rt, reader, writer, &options, path),
         },
         Err(error) => tell(rt, &error).map_err(Failure::from),
     }

@@ -94,8 +94,8 @@ fn check_asked(begin: &HistoryStart, asked: Asked) -> Result<(), HistoryFault>
     Ok(())
 }
 
-// The number that the words give, if it is another one than this.
-fn other_than(asked: Option<u64>, has: u64) -> Option<u64>
+/// The number that the words give, if it is another one than this.
+pub(crate) fn other_than(asked: Option<u64>, has: u64) -> Option<u64>
     ensures { MatchOption result (IsAsked asked has) (λ n. (asked ≡ Some n) × (n ≢ has)) }
 {
     match asked {

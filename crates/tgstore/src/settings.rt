@@ -18,7 +18,9 @@ pub struct Options<'a> {
     pub stock: &'a str,
     /// The file of the history that the run goes on from, if there is one.
     pub resume: Option<&'a str>,
-    /// What the words ask of that history.
+    /// The file that keeps the store of the run, if there is one.
+    pub keep: Option<&'a str>,
+    /// What the words ask of the history, or of the file that keeps the store.
     pub asked: Asked,
 }
 

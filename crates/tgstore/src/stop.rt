@@ -2,6 +2,7 @@
 ghost use Rattle.std.specs.Prelude.{◌≡◌};
 ghost use Rattle.tgstore.specs.Faults.{status_of_stop};
 
+use crate::keeping::KeepFault;
 use crate::resuming::HistoryFault;
 use crate::start::StartFault;
 use std::alloc::{AllocError, AllocFailed};
@@ -24,6 +25,9 @@ pub enum Stop {
     /// Nothing of the script was read, since the run can't go on from the history.
     #[error(transparent)]
     Resume(HistoryFault),
+    /// Nothing of the script was read, since what is asked for can't be kept in the file.
+    #[error(transparent)]
+    Keep(KeepFault),
     /// The run met this fault.
     #[error(transparent)]
     Script(ScriptFault),
@@ -81,6 +85,7 @@ impl Stop {
         match self {
             Stop::BadWords
             | Stop::Start(StartFault::BadStock | StartFault::BadLimits | StartFault::StrictRace)
+            | Stop::Keep(_)
             | Stop::Resume(
                 HistoryFault::OtherWorkers { .. }
                 | HistoryFault::OtherVertices { .. }

@@ -76,6 +76,7 @@ fn options_of<'a>(matches: &ArgMatches<'a>) -> Result<Options<'a>, BadNumber>
     ensures strict { IfOk result (λ o. IsFlag (one_text (found_of matches.now) (codes "strict")) o.strict) }
     ensures stock { IfOk result (λ o. o.stock.now ≡ unwrap_or (first_value (found_of matches.now) (codes "stock")) []) }
     ensures resume { IfOk result (λ o. option_map (λ s. s.now) o.resume ≡ first_value (found_of matches.now) (codes "resume")) }
+    ensures keep { IfOk result (λ o. option_map (λ s. s.now) o.keep ≡ first_value (found_of matches.now) (codes "keep")) }
     ensures asked { IfOk result (λ o. AreAsked (found_of matches.now) o.asked) }
     ensures in_range { IfOk result (λ o. AreInRange o.settings) }
 {
@@ -89,6 +90,7 @@ fn options_of<'a>(matches: &ArgMatches<'a>) -> Result<Options<'a>, BadNumber>
             strict: matches.get_flag("strict"),
             stock: matches.get_str("stock").unwrap_or(""),
             resume: matches.get_str("resume"),
+            keep: matches.get_str("keep"),
             asked,
         }),
         Err(bad) => Err(bad),
@@ -179,6 +181,7 @@ fn command<'a>(alloc: Global) -> Result<Command<'a>, AllocError>
         arg_of(alloc, "why", help::WHY, ArgAction::SetTrue),
         arg_of(alloc, "strict", help::STRICT, ArgAction::SetTrue),
         option_arg(alloc, "resume", "FILE", help::RESUME),
+        option_arg(alloc, "keep", "FILE", help::KEEP),
     ]?;
     match bare_command(alloc) {
         Ok(command) => command.args(options),

@@ -16,4 +16,4 @@ returns-in-Ok-clause-said g c =
     let found = found_of c.in_ok-matches.matches in
     let rows : rows_of found ≡ matches_of command_line words =
     (c.in_ok-matches.ensures.ok.2 (ap is_simple c.requires ∙ is_simple_line)).0 ∙ ap (λ (a : App). matches_of a words) c.requires in
-    said_of words found c.in-Ok.options rows c.in-Ok.ensures.found c.in-Ok.ensures.race c.in-Ok.ensures.entries c.in-Ok.ensures.why c.in-Ok.ensures.strict c.in-Ok.ensures.stock c.in-Ok.ensures.resume c.in-Ok.ensures.asked
+    said_of words found c.in-Ok.options rows c.in-Ok.ensures.found c.in-Ok.ensures.race c.in-Ok.ensures.entries c.in-Ok.ensures.why c.in-Ok.ensures.strict c.in-Ok.ensures.stock c.in-Ok.ensures.resume c.in-Ok.ensures.keep c.in-Ok.ensures.asked
