@@ -1,4 +1,3 @@
-#!/usr/bin/env python3
 """keeper.py FILE: a plain program that keeps what it answers in FILE.
 
 It answers each line of standard input with `ok`. It writes a line into FILE for each, in the form of a kept file, and syncs the lines
