@@ -89,6 +89,18 @@ PLACES = {
         ["match write_said Ok(()) Err(WriteFailed)"],
         "the line is written to memory, which fails for want of it alone",
     ),
+    ("tg_kept/src/lines.rt", "end_line_named"): (
+        ["match write_end Ok(()) Err(WriteFailed)"],
+        "the line is written to memory, which fails for want of it alone",
+    ),
+    ("tg_lasting/src/part.rt", "keep_part"): (
+        ["if is_cut(replied.outcome)"],
+        "the replies are written to memory, which fails for want of it alone",
+    ),
+    ("tg_shares/src/creating.rt", "create_next"): (
+        ["if client.session.make_room(draft.value().state.as_slice()).is_err()"],
+        "the room of a receipt is refused for want of memory alone, as the call says",
+    ),
     ("tg_kept/src/read.rt", "text_named"): (
         ["match write_end Ok(()) Err(WriteFailed)"],
         "the text is written to memory, which fails for want of it alone",
@@ -144,6 +156,7 @@ NAMED = {
     ("tg_plain/src/run.rt", "open", "script.workers"):
         "how many workers there are: at most 64, as the words of the command line may say",
     ("tgstore/src/boxes.rt", "serve_with_boxes", "start.settings.workers"): "the same",
+    ("tgstore/src/kept_streams.rt", "setup_of", "start.settings.workers"): "the same",
     ("tgdot/src/run.rt", "open", "script.workers"): "the same",
     ("tg_plain/src/text.rt", "pad", "first.saturating_add(width)"): "the longest text of a kind that is drawn",
     ("tg_could/src/witness/plan.rt", "make_names", "last.saturating_add(1)"):
@@ -175,6 +188,9 @@ NAMED = {
     ("tg_store/src/store/picture.rt", "find_reached", "while next<found.vertices.len()"):
         "a vertex that is reached each",
     ("tg_shared/src/creating.rt", "create_all", "while let Some(draft)=drafts.pop()"): "a draft of the list each",
+    ("tg_shares/src/creating.rt", "create_all", "while let Some(draft)=drafts.pop()"): "a draft of the list each",
+    ("tg_lasting/src/chunk.rt", "next_chunk", "while chunk.len()<=MOST_LINE_BYTES"): "a piece of the reader each",
+    ("tg_lasting/src/run.rt", "run_parts", "loop"): "a part of the script each",
     ("tg_graph/src/settle.rt", "add_indexed", "while let Some(number)=row.noted.next(from)"):
         "a cell that was noted each",
     ("tg_script/src/opening.rt", "read_edges", "while let Some(line)=script.next(source, sink)?"): "a line each",
