@@ -118,7 +118,6 @@ ASKED = {
     "kept_with_its_own_numbers": {"store": GRANTED_CLOSED},
     "kept_with_other_workers": {"store": GRANTED_CLOSED},
     "kept_with_a_stock": {"store": GRANTED_CLOSED},
-    "kept_by_a_link": {"a_store": GRANTED_CLOSED},
     "kept_damage_in_the_middle": {"store": flipped(line(6, GRANTED_CLOSED) + 4, GRANTED_CLOSED)},
     "kept_a_wrong_sum": {"store": flipped(line(8, GRANTED_CLOSED) - 3, GRANTED_CLOSED)},
     "kept_a_reply_that_is_none": {"store": kept((*GRANTS[:3], (b"0 grant 1 2 a = ok",)))},
