@@ -209,11 +209,16 @@ def shown(lines: Sequence[bytes], at: int) -> str:
 
 
 def check_talk(row: Row, program: Path) -> str | None:
-    """Leads the talk that is stored, and compares what came, in the form of the stored file, and after it what came
-    later."""
-    with tempfile.TemporaryFile() as errors:
+    """Leads the talk that is stored in an empty folder, and compares what came, in the form of the stored file, and after
+    it what came later."""
+    with tempfile.TemporaryFile() as errors, tempfile.TemporaryDirectory() as folder:
         process = subprocess.Popen(
-            [program, *row.words], stdin=subprocess.PIPE, stdout=subprocess.PIPE, stderr=errors, bufsize=0
+            [program.resolve(), *row.words],
+            stdin=subprocess.PIPE,
+            stdout=subprocess.PIPE,
+            stderr=errors,
+            bufsize=0,
+            cwd=folder,
         )
         came = []
         for line in row.stored("talk").splitlines():
