@@ -60,7 +60,7 @@ RUNS = [
     Runs("tgdot", OPTIONS, SCRIPT),
     Runs("tgdot", [*OPTIONS, "--steps", "--from", "2"], SCRIPT),
     Runs("tgdot", [], PART),
-    Runs("tgdot", ["--kept", "/dev/stdin"], KEPT[:-4]),
+    Runs("tgdot", ["--kept", "/dev/stdin"], KEPT),
     Runs("tgdot", ["--unknown"], b""),
 ]
 
